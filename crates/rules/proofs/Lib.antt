@@ -1,0 +1,5 @@
+pub mod Booleans
+pub mod ListLaws
+pub mod SetLaws
+pub mod MaximalLaws
+pub mod RowLaws

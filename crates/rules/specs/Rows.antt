@@ -1,0 +1,24 @@
+-- Rows, moves and their numbers.
+use Prim.Native.Nat.{ℕ}
+use mathlib.Core.Bool.{Bool, _&&_, _||_}
+use lib.Dec.{ltb, eqb}
+use Rattle.rules.specs.declared.Row.{Row}
+use Rattle.rules.specs.declared.Move.{Move}
+
+abbrev pub row : ℕ → ℕ → ℕ → Row
+row from target set = record { from = from; target = target; set = set }
+
+abbrev pub move : ℕ → ℕ → ℕ → Move
+move number set target = record { row = number; set = set; target = target }
+
+-- 01, 'Tables': FIN has "one move: the empty set, back to FIN. Its idle row has the number 65,535."
+abbrev pub idle : Move
+idle = move 65535 0 0
+
+-- a comes before b by its first number, or has the same first number and comes before b by the rest
+abbrev pub before : ℕ → ℕ → Bool → Bool
+before a b rest = ltb a b || (eqb a b && rest)
+
+-- 01, 'The file': "Rows rise strictly by from, then set, then target."
+unfoldable pub rises : Row → Row → Bool
+rises a b = before (a .from) (b .from) (before (a .set) (b .set) (ltb (a .target) (b .target)))

@@ -1,0 +1,4 @@
+pub mod CheckLaws
+pub mod FileLaws
+pub mod AcceptedLaws
+pub mod BodyLaws

@@ -1,0 +1,39 @@
+use Rattle.tables.specs.Open.{openOf}
+use borrow.Author.Needs.{needs}
+use Rattle.tables.proofs.open.Statement.{statement}
+use Rattle.tables.proofs.open.Tie as tie
+
+check-file-requires : tie.Need-check-file-requires
+check-file-requires c κs = search needs
+
+enum-known-refusal : tie.Need-enum-known-refusal
+enum-known-refusal c = search needs
+
+enum-told : tie.Need-enum-told
+enum-told c = search needs
+
+word-requires : tie.Need-word-requires
+word-requires c κs = search needs
+
+cast-t6 : tie.Need-cast-t6
+cast-t6 c = search needs
+
+returns : tie.Need-returns
+unfolding openOf
+returns c = simp (← (c .before .before .before .check-file .ensures), c .before .refusal .given .1)
+
+returns-2 : tie.Need-returns-2
+unfolding openOf
+returns-2 c = simp (← (c .before .before .before .check-file .ensures), c .before .enum-told .given .1, c .word .ensures)
+
+pub open-spec : {M : Type 1} → statement M
+open-spec =
+    tie.close
+    (tie.spec
+    check-file-requires
+    enum-known-refusal
+    enum-told
+    word-requires
+    cast-t6
+    returns
+    returns-2)
