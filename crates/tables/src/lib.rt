@@ -82,8 +82,8 @@ pub fn body(file: &[u8], table: usize) -> &[u8]
     let Opened::Tables(k) = found else {
         return &file[..0];
     };
-    if k <= table {
-        return &file[..0];
+    if table < k {
+        return reads::entry_body(file, entry_at(file, table));
     }
-    reads::entry_body(file, entry_at(file, table))
+    &file[..0]
 }

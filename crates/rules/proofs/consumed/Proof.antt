@@ -1,3 +1,4 @@
+-- `rules::consumed` meets its contract. The code is the definition.
 use mathlib.Core.Path.{refl}
 use Rattle.rules.specs.Sets.{intersection}
 use Rattle.rules.proofs.consumed.Statement.{statement}

@@ -1,3 +1,4 @@
+-- `rules::is_inside` meets its contract. The code is the definition.
 use mathlib.Core.Path.{refl}
 use Rattle.rules.specs.Sets.{inside}
 use Rattle.rules.proofs.is_inside.Statement.{statement}

@@ -1,3 +1,4 @@
+-- `rules::is_larger` meets its contract. Equal sets are not strictly larger; of two that differ, the larger holds the other.
 use borrow.Author.Needs.{needs}
 use Rattle.rules.proofs.SetLaws.{same-larger, other-larger}
 use Rattle.rules.proofs.is_larger.Statement.{statement}

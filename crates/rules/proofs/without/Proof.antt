@@ -1,3 +1,4 @@
+-- `rules::without` meets its contract. What both sets have is part of a, so the difference does not go below 0.
 use mathlib.Core.Path.{refl}
 use lib.Bits.{and-le-l}
 use Rattle.rules.specs.Sets.{difference}

@@ -1,5 +1,6 @@
+-- `tables::body` meets its contract. By what opening finds: its refusal, a table that is not there, or the body that the entry tells of, which lies in an accepted file.
 use denote.Ref.{now}
-use mathlib.Core.Path.{refl, sym, _∙_}
+use mathlib.Core.Path.{refl}
 use native.Mathlib.Omega.{arith}
 use Rattle.tables.specs.Body.{bodySpan}
 use Rattle.tables.proofs.BodyLaws.{body-refused, body-missing, body-there}
@@ -24,24 +25,24 @@ returns : tie.Need-returns
 unfolding bodySpan
 returns c = rw (body-refused _ _ _ (c .before .before .before .«open» .ensures) _ (c .before .enum-told .given .1)) (record { block = refl; start = omega arith; bytes = refl })
 
-slice-aggregate-result-2 : tie.Need-slice-aggregate-result-2
-slice-aggregate-result-2 c = search needs
-
-returns-2 : tie.Need-returns-2
-unfolding bodySpan
-returns-2 c = rw (body-missing _ _ _ (c .before .before .before .before .before .«open» .ensures) _ (c .before .before .before .found .given .1) (c .before .if1 .taken)) (record { block = refl; start = omega arith; bytes = refl })
-
 entry-at-requires : tie.Need-entry-at-requires
 entry-at-requires c κs = search needs
 
 entry-body-requires : tie.Need-entry-body-requires
 entry-body-requires c κs =
     let accepted = opened-accepted (now (c .before .before .before .before .before .before .before .args .file)) _ (rw (c .before .before .before .found .given .1) at (c .before .before .before .before .before .«open» .ensures)) in
-    rw (c .entry-at .ensures) (accepted .within (c .before .before .before .before .before .before .before .args .table) (c .before .if1 .left))
+    rw (c .entry-at .ensures) (accepted .within (c .before .before .before .before .before .before .before .args .table) (c .before .if1 .taken))
+
+returns-2 : tie.Need-returns-2
+unfolding bodySpan
+returns-2 c = rw (body-there _ _ _ (c .before .before .before .before .before .before .«open» .ensures) _ (c .before .before .before .before .found .given .1) (c .before .before .if1 .taken), ← (c .before .entry-at .ensures)) (c .entry-body .ensures)
+
+slice-aggregate-result-2 : tie.Need-slice-aggregate-result-2
+slice-aggregate-result-2 c = search needs
 
 returns-3 : tie.Need-returns-3
 unfolding bodySpan
-returns-3 c = rw (body-there _ _ _ (c .before .before .before .before .before .before .«open» .ensures) _ (c .before .before .before .before .found .given .1) (c .before .before .if1 .left), ← (c .before .entry-at .ensures)) (c .entry-body .ensures)
+returns-3 c = rw (body-missing _ _ _ (c .before .before .before .before .before .«open» .ensures) _ (c .before .before .before .found .given .1) (c .before .if1 .left)) (record { block = refl; start = omega arith; bytes = refl })
 
 pub body-spec : {M : Type 1} → statement M
 body-spec =
@@ -52,8 +53,8 @@ body-spec =
     enum-told
     slice-aggregate-result
     returns
-    slice-aggregate-result-2
-    returns-2
     entry-at-requires
     entry-body-requires
+    returns-2
+    slice-aggregate-result-2
     returns-3)

@@ -1,3 +1,4 @@
+-- `tables::body_refusal` meets its contract. By what opening finds: its refusal, a table that is not there, or a body.
 use denote.Ref.{now}
 use Rattle.tables.specs.Body.{bodyAnswer}
 use Rattle.tables.proofs.BodyLaws.{body-refused, body-missing, body-there}

@@ -1,3 +1,4 @@
+-- `tables::open` meets its contract. By what the checks of the file find.
 use Rattle.tables.specs.Open.{openOf}
 use borrow.Author.Needs.{needs}
 use Rattle.tables.proofs.open.Statement.{statement}

@@ -1,3 +1,4 @@
+-- `tables::refusal_of` meets its contract. By the case of the answer.
 use mathlib.Core.Path.{ap, sym, _∙_}
 use Rattle.tables.specs.Answers.{refusalOf, opened}
 use borrow.Author.Needs.{needs}

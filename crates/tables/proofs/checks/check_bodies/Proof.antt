@@ -1,3 +1,4 @@
+-- `tables::checks::check_bodies` meets its contract. The invariant: the bodies before i have passed.
 use Prim.Native.Nat.{_+_, _-_, _≤_}
 use mathlib.Core.Path.{_≡_, _∙_, sym}
 use borrow.Author.Needs.{needs}

@@ -1,3 +1,4 @@
+-- `tables::checks::check_body` meets its contract. The rows checked are those of the part of the file that the entry tells of.
 use native.Mathlib.Omega.{arith}
 use mathlib.Core.Path.{_∙_, ap}
 use mathlib.Core.List.{List}

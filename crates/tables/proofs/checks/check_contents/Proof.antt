@@ -1,3 +1,4 @@
+-- `tables::checks::check_contents` meets its contract. The invariant: the entries before i have passed, and end is the end of what precedes body i.
 use Prim.Native.Nat.{_+_, _*_, _-_, _≤_, ℕ}
 use mathlib.Core.Path.{_≡_, refl, sym, _∙_, ap}
 use borrow.Author.Needs.{needs}

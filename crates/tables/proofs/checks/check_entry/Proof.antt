@@ -1,3 +1,4 @@
+-- `tables::checks::check_entry` meets its contract. Each return is the first fault that applies.
 use borrow.Author.Tests.{lt-ltb, le-ltb, le-leb, lt-leb, eq-eqb, ne-eqb}
 use Rattle.tables.specs.Checks.{fault, _then_}
 use Rattle.tables.specs.Open.{entryFault}

@@ -1,3 +1,4 @@
+-- `tables::checks::check_file` meets its contract. Each step that passes leaves the answer to the next; with the first three passed, the bodies lie in the file.
 use Prim.Native.Nat.{ℕ}
 use mathlib.Core.Path.{_≡_, refl, sym, _∙_, ap}
 use denote.Ref.{now}

@@ -1,3 +1,4 @@
+-- `tables::checks::check_length` meets its contract. The file ends where the bodies end, or the length is wrong.
 use borrow.Author.Tests.{lt-ltb, le-ltb, le-leb, lt-leb, eq-eqb, ne-eqb}
 use Rattle.tables.specs.Checks.{fault}
 use Rattle.tables.specs.Open.{lengthFault}

@@ -1,3 +1,4 @@
+-- `tables::checks::check_rows` meets its contract. The invariant: the rows before j have passed.
 use Prim.Native.Nat.{_-_, _≤_}
 use mathlib.Core.Path.{_≡_}
 use borrow.Author.Needs.{needs}

@@ -1,3 +1,4 @@
+-- `tables::checks::is_outside` meets its contract. By the first comparison.
 use borrow.Author.Tests.{lt-ltb, le-ltb}
 use Rattle.tables.specs.Open.{outside}
 use Rattle.tables.proofs.checks.is_outside.Statement.{statement}

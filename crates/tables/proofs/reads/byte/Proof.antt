@@ -1,3 +1,4 @@
+-- `tables::reads::byte` meets its contract. A byte past the end is 0.
 use denote.Ref.{now}
 use borrow.Author.Needs.{needs}
 use Rattle.tables.proofs.FileLaws.{byte-past}

@@ -1,3 +1,4 @@
+-- `tables::reads::entry_at` meets its contract. An entry past the end has 0 in each field; any other is read field by field.
 use denote.Ref.{now}
 use native.Mathlib.Omega.{arith}
 use Rattle.tables.specs.File.{entryOf}

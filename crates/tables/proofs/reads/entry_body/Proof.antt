@@ -1,3 +1,4 @@
+-- `tables::reads::entry_body` meets its contract. The part starts at the offset and has as many bytes as the body.
 use mathlib.Core.Path.{refl, ap, _∙_}
 use native.Mathlib.Omega.{arith}
 use native.Mathlib.Nat.{add-sub-cancel-left}

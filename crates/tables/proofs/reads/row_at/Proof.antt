@@ -1,3 +1,4 @@
+-- `tables::reads::row_at` meets its contract. A row past the end has 0 in each field; any other is read field by field.
 use denote.Ref.{now}
 use mathlib.Core.Path.{_∙_}
 use native.Mathlib.Omega.{arith}

@@ -1,3 +1,4 @@
+-- `tables::reads::word` meets its contract. Two bytes, the low one first; past the end both are 0.
 use denote.Ref.{now}
 use borrow.Author.Needs.{needs}
 use Rattle.tables.specs.File.{wordAt}

@@ -1,3 +1,4 @@
+-- `tables::reads::Entry::body_length` meets its contract. The code is the definition.
 use borrow.Author.Needs.{needs}
 use mathlib.Core.Path.{refl}
 use Rattle.tables.specs.File.{bodyLength}
