@@ -1,7 +1,7 @@
 -- Laws of tests: `T b` says that the test b passes. Relies on nothing.
 use Prim.Native.Nat.{ℕ}
 use mathlib.Core.Path.{_≡_, refl, sym, subst}
-use mathlib.Core.Bool.{Bool, true, false, not, _&&_, _||_}
+use mathlib.Core.Bool.{Bool, true, false, _&&_, _||_}
 use mathlib.Core.Logic.{_⊎_, inl, inr}
 use lib.Dec.{T, eqb, eqb-refl}
 
@@ -66,14 +66,3 @@ or-false-l false b e = refl
 pub or-false-r : (a b : Bool) → a || b ≡ false → b ≡ false
 or-false-r true b e = cc
 or-false-r false b e = e
-
--- `a && not b` fails where a passes: b passes
-pub and-not-false : (a b : Bool) → a && not b ≡ false → a ≡ true → b ≡ true
-and-not-false true true e h = refl
-and-not-false true false e h = cc
-and-not-false false b e h = cc
-
--- `a && not b` fails where a implies b
-pub not-and-not : (a b : Bool) → (a ≡ true → b ≡ true) → a && not b ≡ false
-not-and-not true b f = rw (f refl)
-not-and-not false b f = refl

@@ -1,11 +1,11 @@
--- Laws of the tests on lists: what `any` and `all` mean. Relies on nothing.
-use mathlib.Core.Path.{_≡_, refl, sym, subst}
+-- Laws of the tests on lists: what `any` means. Relies on nothing.
+use mathlib.Core.Path.{refl, subst}
 use mathlib.Core.Bool.{Bool}
 use mathlib.Core.List.{List, [], _∷_, List·Memᴰ, List·Memᴰ·head, List·Memᴰ·tail}
 use mathlib.Core.Logic.{_⊎_, inl, inr}
 use lib.Dec.{T}
-use Rattle.rules.specs.Lists.{any, all}
-use Rattle.rules.proofs.Booleans.{and-i, and-l, and-r, or-l, or-r, or-cases}
+use Rattle.rules.specs.Lists.{any}
+use Rattle.rules.proofs.Booleans.{or-l, or-r, or-cases}
 
 module _ {A : Type 0} (p : A → Bool) where
   pub any-some : (l : List A) → T (any p l) → (x : A) × List·Memᴰ x l × T (p x)
@@ -19,11 +19,3 @@ module _ {A : Type 0} (p : A → Bool) where
   pub some-any : {l : List A} {x : A} → List·Memᴰ x l → T (p x) → T (any p l)
   some-any (List·Memᴰ·head {x = x} {xs = xs} e) t = or-l (p x) (any p xs) (subst (λ (z : A). T (p z)) e t)
   some-any (List·Memᴰ·tail {x = x} {xs = xs} m) t = or-r (p x) (any p xs) (some-any m t)
-
-  pub all-each : {l : List A} {x : A} → T (all p l) → List·Memᴰ x l → T (p x)
-  all-each t (List·Memᴰ·head {x = x} {xs = xs} e) = subst (λ (z : A). T (p z)) (sym e) (and-l (p x) (all p xs) t)
-  all-each t (List·Memᴰ·tail {x = x} {xs = xs} m) = all-each (and-r (p x) (all p xs) t) m
-
-  pub each-all : (l : List A) → ((x : A) → List·Memᴰ x l → T (p x)) → T (all p l)
-  each-all [] f = tt
-  each-all (x ∷ xs) f = and-i (p x) (all p xs) (f x (List·Memᴰ·head refl)) (each-all xs (λ y m. f y (List·Memᴰ·tail m)))

@@ -1,11 +1,14 @@
--- Laws of the order of rows. Relies on nothing.
-use Prim.Native.Nat.{ℕ}
-use mathlib.Core.Path.{_≡_, refl}
-use mathlib.Core.Bool.{Bool, true, false, _||_}
-use lib.Dec.{ltb, eqb}
-use borrow.Author.Tests.{lt-ltb, le-ltb, eq-eqb, ne-eqb}
+-- Laws of the order of rows: it is strict and transitive. Relies on nothing.
+use Prim.Native.Nat.{ℕ, _<_}
+use mathlib.Core.Path.{_≡_, refl, sym}
+use mathlib.Core.Bool.{Bool, true, false, _||_, _&&_}
+use mathlib.Core.Logic.{_⊎_, inl, inr}
+use lib.Dec.{T, ltb, ltb→lt, lt→ltb, eqb, eqb→eq}
+use borrow.Author.Tests.{le-ltb, eq-eqb, ne-eqb}
 use native.Mathlib.Omega.{arith}
-use Rattle.rules.specs.Rows.{before}
+use Rattle.rules.specs.declared.Row.{Row}
+use Rattle.rules.specs.Rows.{before, rises}
+use Rattle.rules.proofs.Booleans.{T-true, true-T, eq-T, and-i, and-l, and-r, or-l, or-r, or-cases}
 
 -- numbers that differ decide
 pub before-differ : (a b : ℕ) (rest : Bool) → (a ≡ b → ⊥) → ltb a b ≡ before a b rest
@@ -18,3 +21,44 @@ before-differ a b rest n = rw (ne-eqb a b n) (go (ltb a b))
 -- equal numbers leave it to the rest
 pub before-equal : (a b : ℕ) (rest : Bool) → a ≡ b → rest ≡ before a b rest
 before-equal a b rest e = rw (eq-eqb a b e, le-ltb a b (omega arith))
+
+-- the two ways to come before
+before-cases : (a b : ℕ) (rest : Bool) → T (before a b rest) → (a < b) ⊎ ((a ≡ b) × T rest)
+before-cases a b rest t = go (or-cases (ltb a b) (eqb a b && rest) t)
+  where
+    go : T (ltb a b) ⊎ T (eqb a b && rest) → (a < b) ⊎ ((a ≡ b) × T rest)
+    go (inl l) = inl (ltb→lt a b l)
+    go (inr r) = inr (eqb→eq a b (and-l (eqb a b) rest r), and-r (eqb a b) rest r)
+
+lower-before : (a b : ℕ) (rest : Bool) → a < b → T (before a b rest)
+lower-before a b rest l = or-l (ltb a b) (eqb a b && rest) (lt→ltb a b l)
+
+equal-before : (a b : ℕ) (rest : Bool) → a ≡ b → T rest → T (before a b rest)
+equal-before a b rest e t = or-r (ltb a b) (eqb a b && rest) (and-i (eqb a b) rest (eq-T a b e) t)
+
+before-trans : (a b c : ℕ) (p q r : Bool) → (T p → T q → T r) → T (before a b p) → T (before b c q) → T (before a c r)
+before-trans a b c p q r f s t = go (before-cases a b p s) (before-cases b c q t)
+  where
+    go : (a < b) ⊎ ((a ≡ b) × T p) → (b < c) ⊎ ((b ≡ c) × T q) → T (before a c r)
+    go (inl l) (inl m) = lower-before a c r (omega arith)
+    go (inl l) (inr m) = let e = m .0 in lower-before a c r (omega arith)
+    go (inr l) (inl m) = let e = l .0 in lower-before a c r (omega arith)
+    go (inr l) (inr m) = let d = l .0 in let e = m .0 in equal-before a c r (omega arith) (f (l .1) (m .1))
+
+-- a row does not rise to itself
+pub rises-irrefl : (a : Row) → rises a a ≡ false
+unfolding rises
+rises-irrefl a =
+    rw (
+      sym (before-equal (a .from) (a .from) (before (a .set) (a .set) (ltb (a .target) (a .target))) refl),
+      sym (before-equal (a .set) (a .set) (ltb (a .target) (a .target)) refl),
+    ) (le-ltb (a .target) (a .target) (omega arith))
+
+pub rises-trans : (a b c : Row) → rises a b ≡ true → rises b c ≡ true → rises a c ≡ true
+unfolding rises
+rises-trans a b c s t =
+    T-true _
+    (before-trans (a .from) (b .from) (c .from) _ _ _
+    (before-trans (a .set) (b .set) (c .set) _ _ _
+    (λ p q. let l = ltb→lt (a .target) (b .target) p in let m = ltb→lt (b .target) (c .target) q in lt→ltb (a .target) (c .target) (omega arith)))
+    (true-T _ s) (true-T _ t))

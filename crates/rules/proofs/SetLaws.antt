@@ -146,13 +146,13 @@ some-resource =
 
 -- ---- strict inclusion
 
-pub larger-inside : (a b : ℕ) → T (larger a b) → T (inside b a)
-unfolding larger
-larger-inside a b t = and-l (inside b a) (not (eqb a b)) t
-
 pub larger-differs : (a b : ℕ) → T (larger a b) → a ≡ b → ⊥
 unfolding larger
 larger-differs a b t e = T-not (eqb a b) (and-r (inside b a) (not (eqb a b)) t) (eq-T a b e)
+
+pub larger-inside : (a b : ℕ) → T (larger a b) → T (inside b a)
+unfolding larger
+larger-inside a b t = and-l (inside b a) (not (eqb a b)) t
 
 pub larger-i : (a b : ℕ) → T (inside b a) → (a ≡ b → ⊥) → T (larger a b)
 unfolding larger
@@ -226,6 +226,10 @@ module _ (w : ℕ) where
   pub below-inside : (a b : ℕ) → a < 2 ^ w → ((r : ℕ) → r < w → T (has r a) → T (has r b)) → T (inside a b)
   below-inside a b h f = has-inside a b (λ r t. f r (has-below a r h t) t)
 
+  -- a strictly larger set has one of the w resources more
+  pub below-larger : (a b : ℕ) → a < 2 ^ w → T (larger a b) → (r : ℕ) × (r < w) × T (has r a) × (T (has r b) → ⊥)
+  below-larger a b h t = let (r, p, n) = larger-has a b t in (r, has-below a r h p, p, n)
+
 -- ---- the same for 16 bits
 
 pub sixteen-has : (a r : ℕ) → a < 65536 → T (has r a) → r < 16
@@ -233,3 +237,6 @@ sixteen-has = has-below 16
 
 pub sixteen-inside : (a b : ℕ) → a < 65536 → ((r : ℕ) → r < 16 → T (has r a) → T (has r b)) → T (inside a b)
 sixteen-inside = below-inside 16
+
+pub sixteen-larger : (a b : ℕ) → a < 65536 → T (larger a b) → (r : ℕ) × (r < 16) × T (has r a) × (T (has r b) → ⊥)
+sixteen-larger = below-larger 16

@@ -1,5 +1,5 @@
 -- Tests on lists.
-use mathlib.Core.Bool.{Bool, true, false, _&&_, _||_}
+use mathlib.Core.Bool.{Bool, false, _||_}
 use mathlib.Core.List.{List, [], _∷_}
 
 module _ {A : Type 0} where
@@ -7,8 +7,3 @@ module _ {A : Type 0} where
   abbrev pub any : (A → Bool) → List A → Bool
   any p [] = false
   any p (x ∷ xs) = p x || any p xs
-
-  -- p passes at every element
-  abbrev pub all : (A → Bool) → List A → Bool
-  all p [] = true
-  all p (x ∷ xs) = p x && all p xs

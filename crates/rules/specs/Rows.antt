@@ -15,7 +15,7 @@ move number set target = record { row = number; set = set; target = target }
 abbrev pub idle : Move
 idle = move 65535 0 0
 
--- a comes before b by its first number, or has the same first number and comes before b by the rest
+-- a is below b, or they are equal and the rest decides
 abbrev pub before : ℕ → ℕ → Bool → Bool
 before a b rest = ltb a b || (eqb a b && rest)
 

@@ -1,5 +1,6 @@
 -- Sets of resources, of any width.
--- Document 01, 'Tables': "A set is 16 bits, resource r being the bit worth 2 to the power r." Here a set is any number; 16 bits are the numbers below 2 ^ 16.
+-- Document 01, 'Tables': "A set is 16 bits, resource r being the bit worth 2 to the power r." Here a set is any number; the sets of
+-- 16 bits are the numbers below 2 ^ 16.
 use Prim.Native.Nat.{ℕ, _-_, _/_, _%_, _^_}
 use mathlib.Core.Bool.{Bool, not, _&&_}
 use mathlib.Core.List.{List}
@@ -23,6 +24,16 @@ union a b = bitOr a b
 unfoldable pub difference : ℕ → ℕ → ℕ
 difference a b = a - bitAnd a b
 
+-- 01, 'Moves': "left = G without B, consumed = B and G, unmet = B without G", of a requested set B and a granted set G
+abbrev pub left : ℕ → ℕ → ℕ
+left B G = difference G B
+
+abbrev pub consumed : ℕ → ℕ → ℕ
+consumed B G = intersection B G
+
+abbrev pub unmet : ℕ → ℕ → ℕ
+unmet B G = difference B G
+
 -- every resource of a is in b
 unfoldable pub inside : ℕ → ℕ → Bool
 inside a b = eqb (bitAnd a b) a
@@ -31,6 +42,7 @@ inside a b = eqb (bitAnd a b) a
 unfoldable pub larger : ℕ → ℕ → Bool
 larger a b = inside b a && not (eqb a b)
 
--- 01, 'Moves': of the sets that are inside G, B "is maximal if no other response to G has a strictly larger set"; B itself is inside G
+-- 01, 'Moves': a response to G "is maximal if no other response to G has a strictly larger set". Here B is inside G, and none of the
+-- sets that is inside G is strictly larger. B is meant to be one of the sets.
 unfoldable pub maximal : List ℕ → ℕ → ℕ → Bool
 maximal sets G B = inside B G && not (any (λ C. inside C G && larger C B) sets)

@@ -1,10 +1,10 @@
 // The vocabulary of tables: rows, moves, the limits, and the operations on sets of resources.
 // Specs: sets of any width and their maximal members. Relies on nothing.
 ghost use mathlib.Core.Path.{_≡_};
-ghost use Rattle.rules.specs.Sets.{intersection, difference, inside, larger};
+ghost use Rattle.rules.specs.Sets.{difference, left, consumed, unmet, inside, larger};
 ghost use Rattle.rules.specs.Rows.{row, move, idle, rises};
 
-// The largest of each thing that a file may have.
+// The limits of document 01: resources in a set, states and rows of a table, tables and bytes of a file.
 pub struct Limits {}
 
 impl Limits {
@@ -101,21 +101,21 @@ fn without(a: u16, b: u16) -> u16
 
 // What is granted and not requested.
 pub fn left(requested: u16, granted: u16) -> u16
-    ensures { λ r. ⌜ r ≡ difference granted requested ⌝ }
+    ensures { λ r. ⌜ r ≡ left requested granted ⌝ }
 {
     without(granted, requested)
 }
 
 // What is requested and granted.
 pub fn consumed(requested: u16, granted: u16) -> u16
-    ensures { λ r. ⌜ r ≡ intersection requested granted ⌝ }
+    ensures { λ r. ⌜ r ≡ consumed requested granted ⌝ }
 {
     requested & granted
 }
 
 // What is requested and not granted.
 pub fn unmet(requested: u16, granted: u16) -> u16
-    ensures { λ r. ⌜ r ≡ difference requested granted ⌝ }
+    ensures { λ r. ⌜ r ≡ unmet requested granted ⌝ }
 {
     without(requested, granted)
 }

@@ -40,6 +40,13 @@ module _ (s : List ℕ) where
       let set = word-past (rowPlace j + 2) (omega arith) in
       λ x. row (from x) (target x) (set x)
 
+  -- ---- bytes
+
+  -- of bytes, a set is 16 bits
+  pub set-below : ((at : ℕ) → byteAt s at < 256) → (j : ℕ) → rowOf s j .set < 65536
+  unfolding rowOf wordAt
+  set-below h j = omega (arith, h (rowPlace j + 2), h (rowPlace j + 2 + 1))
+
   -- ---- the bodies, back to back
 
   pub end-first : endBefore s 0 ≡ 2 + 6 * tablesOf s

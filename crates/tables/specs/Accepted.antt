@@ -1,5 +1,5 @@
 -- What holds of a file that Open accepts.
-use Prim.Native.Nat.{ℕ, zero, suc, _+_, _*_, _≤_, _<_}
+use Prim.Native.Nat.{ℕ, suc, _+_, _*_, _≤_, _<_}
 use mathlib.Core.Path.{_≡_}
 use mathlib.Core.List.{List}
 use mathlib.Core.Bool.{true}
@@ -23,17 +23,14 @@ pub record Accepted (s : List ℕ) (k : ℕ) : Type 0 where
   pub count : tablesOf s ≡ k
   pub some-table : 1 ≤ k
   pub few-tables : k ≤ 16
-  pub contents : entryPlace k ≤ length s
-  pub short : length s ≤ 32866
   pub kind-low : (i : ℕ) → i < k → 1 ≤ entryOf s i .kind
   pub kind-high : (i : ℕ) → i < k → entryOf s i .kind ≤ 2
   pub back-to-back : (i : ℕ) → i < k → entryOf s i .offset ≡ endBefore s i
   pub whole : length s ≡ endBefore s k
-  pub within : (i : ℕ) → i < k → entryOf s i .offset + bodyLength (entryOf s i) ≤ length s
   pub table : (i : ℕ) → i < k → TableBody (entryOf s i .states) (entryOf s i .rows) (bodyOf s i)
 
--- the contents of the file's k tables are in it, and so is each body
+-- what follows: the contents of the k tables and each of their bodies are in the file, which is at most 32,866 bytes long
 pub record Laid (s : List ℕ) (k : ℕ) : Type 0 where
-  pub few-tables : k ≤ 16
-  pub short : length s ≤ 32866
+  pub contents : entryPlace k ≤ length s
   pub within : (i : ℕ) → i < k → entryOf s i .offset + bodyLength (entryOf s i) ≤ length s
+  pub short : length s ≤ 32866

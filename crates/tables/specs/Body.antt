@@ -20,8 +20,8 @@ bodyAnswer s table = answer (bodyChecks s table) []
 
 -- "Turned back, it returns the empty part at the file's start"
 abbrev pub spanUnless : Checked → Span → Span
-spanUnless Passed place = place
-spanUnless (Fault r) place = span 0 0
+spanUnless Passed at = at
+spanUnless (Fault r) at = span 0 0
 
 -- "the part of the caller's file that holds the body"
 unfoldable pub bodySpan : List ℕ → ℕ → Span

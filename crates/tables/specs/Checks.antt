@@ -1,5 +1,4 @@
--- Checks made one after the other: the first fault is the answer.
--- Document 01's first demand: a call is turned back "by the first number that applies".
+-- Checks made one after the other: the first number that applies is the answer.
 use Prim.Native.Nat.{ℕ, zero, suc}
 use mathlib.Core.Bool.{Bool, true, false}
 use Rattle.tables.specs.declared.Refusal.{Refusal}

@@ -5,7 +5,7 @@ use mathlib.Core.List.{List}
 use lib.ListN.{take, drop}
 use denote.Ref.{RefT}
 
--- the place of a part in a slice: its start, and how many elements it has
+-- where a part of a slice lies: its start, and how many elements it has
 pub record Span : Type 0 where
   pub start : ℕ
   pub count : ℕ
@@ -13,8 +13,8 @@ pub record Span : Type 0 where
 abbrev pub span : ℕ → ℕ → Span
 span start count = record { start = start; count = count }
 
--- part is the part of whole at a place: it lies there, in the same memory, and holds what whole holds there
-pub record PartOf (whole part : RefT (List ℕ)) (place : Span) : Type 0 where
+-- part is the part of whole at a span: it lies there, in the same memory, and holds what whole holds there
+pub record PartOf (whole part : RefT (List ℕ)) (at : Span) : Type 0 where
   pub block : part .ptr .0 ≡ whole .ptr .0
-  pub start : part .ptr .1 ≡ whole .ptr .1 + place .start
-  pub bytes : part .now ≡ take (place .count) (drop (place .start) (whole .now))
+  pub start : part .ptr .1 ≡ whole .ptr .1 + at .start
+  pub bytes : part .now ≡ take (at .count) (drop (at .start) (whole .now))

@@ -11,8 +11,9 @@ use super::Refusal;
 use super::reads;
 use super::reads::Entry;
 use rules::Limits;
+use rules::Row;
 
-fn fault(number: u8, place: usize) -> Checked
+fn fault_at(number: u8, place: usize) -> Checked
     ensures { λ r. ⌜ r ≡ Checked.Fault (refuse number place) ⌝ }
 {
     Checked::Fault(Refusal::new(number, place))
@@ -30,14 +31,14 @@ fn check_header(file: &[u8]) -> Checked
 {
     let len = file.len();
     if len < 2 {
-        return fault(1, len);
+        return fault_at(1, len);
     }
     let k = reads::word(file, 0) as usize;
     if is_outside(1, Limits::TABLES, k) {
-        return fault(2, 0);
+        return fault_at(2, 0);
     }
     if len < 2 + 6 * k {
-        return fault(1, len);
+        return fault_at(1, len);
     }
     Checked::Passed
 }
@@ -49,17 +50,21 @@ fn check_entry(file: &[u8], i: usize, end: usize) -> Checked
 {
     let at = 2 + 6 * i;
     let entry = reads::entry_at(file, i);
-    if is_outside(1, 2, entry.kind as usize) {
-        return fault(3, at);
+    if is_outside(
+        Entry::DEMAND as usize,
+        Entry::SUPPLY as usize,
+        entry.kind as usize,
+    ) {
+        return fault_at(3, at);
     }
     if is_outside(1, Limits::STATES, entry.states as usize) {
-        return fault(4, at + 1);
+        return fault_at(4, at + 1);
     }
     if Limits::ROWS < entry.rows as usize {
-        return fault(5, at + 2);
+        return fault_at(5, at + 2);
     }
     if entry.offset as usize != end {
-        return fault(6, at + 4);
+        return fault_at(6, at + 4);
     }
     Checked::Passed
 }
@@ -71,7 +76,7 @@ fn check_length(file: &[u8], end: usize) -> Checked
 {
     let len = file.len();
     if len != end {
-        return fault(7, len);
+        return fault_at(7, len);
     }
     Checked::Passed
 }
@@ -99,19 +104,19 @@ fn check_row(body: &[u8], n: u8, start: usize, j: usize) -> Checked
 {
     let at = start + 4 * j;
     let row = reads::row_at(body, j);
-    if row.from == 0 {
-        return fault(8, at);
+    if row.from == Row::FIN {
+        return fault_at(8, at);
     }
     if n <= row.from {
-        return fault(8, at);
+        return fault_at(8, at);
     }
     if n <= row.target {
-        return fault(9, at + 1);
+        return fault_at(9, at + 1);
     }
     if 0 < j {
         let before = reads::row_at(body, j - 1);
         if !before.rises_to(row) {
-            return fault(10, at);
+            return fault_at(10, at);
         }
     }
     Checked::Passed

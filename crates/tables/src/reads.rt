@@ -6,7 +6,7 @@ ghost use Rattle.tables.specs.File.{byteAt, wordAt, entryOf, bodyLength,
 ghost use Rattle.tables.specs.Part.{PartOf, span};
 use rules::Row;
 
-// A contents entry.
+// A contents entry: `states` is document 01's n, and `rows` its m.
 pub struct Entry {
     pub kind: u8,
     pub states: u8,
@@ -33,7 +33,7 @@ fn byte(bytes: &[u8], at: usize) -> u8
     if at < bytes.len() { bytes[at] } else { 0 }
 }
 
-fn pair(low: u8, high: u8) -> u16
+fn little_endian(low: u8, high: u8) -> u16
     ensures { λ r. ⌜ r ≡ low + 256 * high ⌝ }
 {
     low as u16 + 256 * (high as u16)
@@ -46,7 +46,7 @@ pub(crate) fn word(bytes: &[u8], at: usize) -> u16
     if bytes.len() <= at {
         return 0;
     }
-    pair(byte(bytes, at), byte(bytes, at + 1))
+    little_endian(byte(bytes, at), byte(bytes, at + 1))
 }
 
 // Contents entry i of a file.

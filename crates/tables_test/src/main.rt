@@ -1,6 +1,9 @@
-// Runs Open, Body and the readers on document 01's file E and on the edges of each number, and writes every answer.
+// Runs Open, Body and the readers on document 01's file E and on the edges of each number, and writes every answer, and the constants.
 // The file `stdout` beside this folder has the answers that are due. Relies on `tables`.
 ghost use Prim.Native.Nat.{_<_};
+use rules::Limits;
+use rules::Row;
+use tables::Entry;
 use tables::Opened;
 use tables::Refusal;
 
@@ -63,7 +66,7 @@ fn field(word: &[u8], n: usize) {
     number(n);
 }
 
-// A byte that is changed: its place and its value.
+// A byte that is set: its place and its value.
 fn change(at: usize, value: u8) {
     field(b", byte", at);
     field(b" is", value as usize);
@@ -178,16 +181,21 @@ fn order() {
 }
 
 fn two_faults() {
+    cut_one(1, 0, 0); // one byte, and k
     two(2, 0, 3, 0); // kind and n
+    two(3, 0, 5, 3); // n and m
     two(3, 0, 8, 0); // n, and kind of the second
     two(3, 65, 6, 13); // n and offset
     two(5, 3, 6, 13); // m and offset
+    two(6, 13, 8, 0); // offset, and kind of the second
     two(8, 3, 14, 0); // kind of the second and from
     cut_one(37, 12, 29); // second offset and length
     cut_one(37, 14, 0); // length and from
     two(14, 0, 15, 4); // from and target
     two(15, 4, 18, 0); // target, and from of the next row
     two(19, 4, 20, 0); // target and order
+    two(20, 0, 26, 0); // order, and from of a later row
+    two(20, 0, 30, 0); // order, and from of the second body
     two(26, 4, 31, 3); // from, and target of the second body
 }
 
@@ -287,18 +295,23 @@ fn is_filed(file: &[u8], start: usize, part: &[u8]) -> bool {
     check::same(&rest[0..part.len()], part)
 }
 
+fn write_filed(filed: bool, start: usize) {
+    if filed {
+        field(b" as filed at", start);
+    } else {
+        field(b" not as filed at", start);
+    }
+}
+
+// The number and place, the part's length, and of a part that is not empty whether it stands at start.
 fn write_body(file: &[u8], table: usize, start: usize) {
     let part = tables::body(file, table);
     io::write_all(1, b" number");
     write_refusal(tables::body_refusal(file, table));
-    io::write_all(1, b" length");
-    number(part.len());
-    if is_filed(file, start, part) {
-        io::write_all(1, b" as filed at");
-    } else {
-        io::write_all(1, b" not as filed at");
+    field(b" length", part.len());
+    if 0 < part.len() {
+        write_filed(is_filed(file, start, part), start);
     }
-    number(start);
 }
 
 // The body of a table of the first len bytes, beside what stands at start.
@@ -388,7 +401,23 @@ fn readers() {
     row(38, 18446744073709551615); // row 18446744073709551615
 }
 
+fn constants() {
+    field(b"FIN", Row::FIN as usize);
+    field(b", idle row", Row::IDLE as usize);
+    field(b", no response", Row::NO_RESPONSE as usize);
+    field(b", demand", Entry::DEMAND as usize);
+    field(b", supply", Entry::SUPPLY as usize);
+    io::write_all(1, b"\n");
+    field(b"resources", Limits::RESOURCES);
+    field(b", states", Limits::STATES);
+    field(b", rows", Limits::ROWS);
+    field(b", tables", Limits::TABLES);
+    field(b", bytes", Limits::BYTES);
+    io::write_all(1, b"\n");
+}
+
 fn main() {
+    constants();
     header();
     kinds_and_states();
     rows_and_offsets();

@@ -4,7 +4,7 @@ use mathlib.Core.Path.{refl}
 use native.Mathlib.Omega.{arith}
 use Rattle.tables.specs.Body.{bodySpan}
 use Rattle.tables.proofs.BodyLaws.{body-refused, body-missing, body-there}
-use Rattle.tables.proofs.AcceptedLaws.{opened-accepted}
+use Rattle.tables.proofs.AcceptedLaws.{opened-laid}
 use borrow.Author.Needs.{needs}
 use Rattle.tables.proofs.body.Statement.{statement}
 use Rattle.tables.proofs.body.Tie as tie
@@ -30,8 +30,8 @@ entry-at-requires c κs = search needs
 
 entry-body-requires : tie.Need-entry-body-requires
 entry-body-requires c κs =
-    let accepted = opened-accepted (now (c .before .before .before .before .before .before .before .args .file)) _ (rw (c .before .before .before .found .given .1) at (c .before .before .before .before .before .«open» .ensures)) in
-    rw (c .entry-at .ensures) (accepted .within (c .before .before .before .before .before .before .before .args .table) (c .before .if1 .taken))
+    let laid = opened-laid (now (c .before .before .before .before .before .before .before .args .file)) _ (rw (c .before .before .before .found .given .1) at (c .before .before .before .before .before .«open» .ensures)) in
+    rw (c .entry-at .ensures) (laid .within (c .before .before .before .before .before .before .before .args .table) (c .before .if1 .taken))
 
 returns-2 : tie.Need-returns-2
 unfolding bodySpan

@@ -6,12 +6,12 @@ use borrow.Author.Needs.{needs}
 use Rattle.tables.proofs.checks.check_header.Statement.{statement}
 use Rattle.tables.proofs.checks.check_header.Tie as tie
 
-fault-requires : tie.Need-fault-requires
-fault-requires c κs = search needs
+fault-at-requires : tie.Need-fault-at-requires
+fault-at-requires c κs = search needs
 
 returns : tie.Need-returns
 unfolding headerFault fault _then_
-returns c = simp (lt-ltb _ _ (c .before .if1 .taken), c .fault .ensures)
+returns c = simp (lt-ltb _ _ (c .before .if1 .taken), c .fault-at .ensures)
 
 word-requires : tie.Need-word-requires
 word-requires c κs = search needs
@@ -22,12 +22,12 @@ cast-k c = search needs
 is-outside-requires : tie.Need-is-outside-requires
 is-outside-requires c κs = search needs
 
-fault-requires-2 : tie.Need-fault-requires-2
-fault-requires-2 c κs = search needs
+fault-at-requires-2 : tie.Need-fault-at-requires-2
+fault-at-requires-2 c κs = search needs
 
 returns-2 : tie.Need-returns-2
 unfolding headerFault fault _then_
-returns-2 c = simp (le-ltb _ _ (c .before .before .before .before .if1 .left), ← (c .before .before .before .word .ensures), ← (c .before .before .is-outside .ensures), c .before .if2 .taken, c .fault2 .ensures)
+returns-2 c = simp (le-ltb _ _ (c .before .before .before .before .if1 .left), ← (c .before .before .before .word .ensures), ← (c .before .before .is-outside .ensures), c .before .if2 .taken, c .fault-at2 .ensures)
 
 mul-if3 : tie.Need-mul-if3
 mul-if3 c = search needs
@@ -35,12 +35,12 @@ mul-if3 c = search needs
 add-if3 : tie.Need-add-if3
 add-if3 c = search needs
 
-fault-requires-3 : tie.Need-fault-requires-3
-fault-requires-3 c κs = search needs
+fault-at-requires-3 : tie.Need-fault-at-requires-3
+fault-at-requires-3 c κs = search needs
 
 returns-3 : tie.Need-returns-3
 unfolding headerFault fault _then_
-returns-3 c = simp (le-ltb _ _ (c .before .before .before .before .before .if1 .left), ← (c .before .before .before .before .word .ensures), ← (c .before .before .before .is-outside .ensures), c .before .before .if2 .left, lt-ltb _ _ (c .before .if3 .taken), c .fault3 .ensures)
+returns-3 c = simp (le-ltb _ _ (c .before .before .before .before .before .if1 .left), ← (c .before .before .before .before .word .ensures), ← (c .before .before .before .is-outside .ensures), c .before .before .if2 .left, lt-ltb _ _ (c .before .if3 .taken), c .fault-at3 .ensures)
 
 returns-4 : tie.Need-returns-4
 unfolding headerFault fault _then_
@@ -50,15 +50,15 @@ pub check-header-spec : {M : Type 1} → statement M
 check-header-spec =
     tie.close
     (tie.spec
-    fault-requires
+    fault-at-requires
     returns
     word-requires
     cast-k
     is-outside-requires
-    fault-requires-2
+    fault-at-requires-2
     returns-2
     mul-if3
     add-if3
-    fault-requires-3
+    fault-at-requires-3
     returns-3
     returns-4)

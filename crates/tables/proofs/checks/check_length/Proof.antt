@@ -6,16 +6,16 @@ use borrow.Author.Needs.{needs}
 use Rattle.tables.proofs.checks.check_length.Statement.{statement}
 use Rattle.tables.proofs.checks.check_length.Tie as tie
 
-fault-requires : tie.Need-fault-requires
-fault-requires c κs = search needs
+fault-at-requires : tie.Need-fault-at-requires
+fault-at-requires c κs = search needs
 
 returns : tie.Need-returns
 unfolding lengthFault fault
-returns c = simp (← (c .before .before .before .pre), ne-eqb _ _ (c .before .if1 .taken), c .fault .ensures)
+returns c = simp (← (c .before .before .before .pre), ne-eqb _ _ (c .before .if1 .taken), c .fault-at .ensures)
 
 returns-2 : tie.Need-returns-2
 unfolding lengthFault fault
 returns-2 c = simp (← (c .before .before .pre), eq-eqb _ _ (c .if1 .left))
 
 pub check-length-spec : {M : Type 1} → statement M
-check-length-spec = tie.close (tie.spec fault-requires returns returns-2)
+check-length-spec = tie.close (tie.spec fault-at-requires returns returns-2)
