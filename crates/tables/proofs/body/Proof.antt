@@ -31,7 +31,7 @@ entry-at-requires c κs = search needs
 entry-body-requires : tie.Need-entry-body-requires
 entry-body-requires c κs =
     let laid = opened-laid (now (c .before .before .before .before .before .before .before .args .file)) _ (rw (c .before .before .before .found .given .1) at (c .before .before .before .before .before .«open» .ensures)) in
-    rw (c .entry-at .ensures) (laid .within (c .before .before .before .before .before .before .before .args .table) (c .before .if1 .taken))
+    rw (c .entry-at .ensures) (laid .within _ (omega arith))
 
 returns-2 : tie.Need-returns-2
 unfolding bodySpan
