@@ -1,7 +1,7 @@
 -- Laws of tests: `T b` says that the test b passes. Relies on nothing.
 use Prim.Native.Nat.{ℕ}
 use mathlib.Core.Path.{_≡_, refl, sym, subst}
-use mathlib.Core.Bool.{Bool, true, false, _&&_, _||_}
+use mathlib.Core.Bool.{Bool, true, false, not, _&&_, _||_}
 use mathlib.Core.Logic.{_⊎_, inl, inr}
 use lib.Dec.{T, eqb, eqb-refl}
 
@@ -57,7 +57,24 @@ pub or-cases : (a b : Bool) → T (a || b) → T a ⊎ T b
 or-cases true b t = inl tt
 or-cases false b t = inr t
 
+-- not a, or b: a implies b
+pub imp-i : (a b : Bool) → (T a → T b) → T (not a || b)
+imp-i true b f = f tt
+imp-i false b f = tt
+
+pub imp-e : (a b : Bool) → T (not a || b) → T a → T b
+imp-e true b t s = t
+imp-e false b t s = absurd s
+
 -- ---- the same as equations
+
+pub or-assoc : (a b c : Bool) → ((a || b) || c) ≡ (a || (b || c))
+or-assoc true b c = refl
+or-assoc false b c = refl
+
+pub or-none : (a : Bool) → (a || false) ≡ a
+or-none true = refl
+or-none false = refl
 
 pub or-false-l : (a b : Bool) → a || b ≡ false → a ≡ false
 or-false-l true b e = e

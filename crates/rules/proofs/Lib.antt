@@ -3,3 +3,12 @@ pub mod ListLaws
 pub mod SetLaws
 pub mod MaximalLaws
 pub mod RowLaws
+pub mod MachineLaws
+pub mod MoveLaws
+pub mod ActionLaws
+pub mod BelowLaws
+pub mod RelationLaws
+pub mod RoundLaws
+pub mod MarkLaws
+pub mod RunLaws
+pub mod ExampleLaws

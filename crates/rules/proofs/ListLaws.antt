@@ -1,11 +1,14 @@
--- Laws of the tests on lists: what `any` means. Relies on nothing.
-use mathlib.Core.Path.{refl, subst}
-use mathlib.Core.Bool.{Bool}
-use mathlib.Core.List.{List, [], _∷_, List·Memᴰ, List·Memᴰ·head, List·Memᴰ·tail}
+-- Laws of lists: what `any`, `all` and `keepIf` mean, and how they and `flatMap` go over elements and over lists end to end. Relies on nothing.
+use Prim.Native.Nat.{ℕ, zero, suc, _+_}
+use mathlib.Core.Path.{_≡_, refl, sym, ap, ap₂, _∙_, subst}
+use mathlib.Core.Bool.{Bool, true, false, not, _&&_, _||_}
+use mathlib.Core.List.{List, [], _∷_, _++_, map, flatMap, append-assoc, List·Memᴰ, List·Memᴰ·head, List·Memᴰ·tail, List·Memᴰ·not-nil, List·Memᴰ·cases-cons, List·Memᴰ·append-cases, Memᴰ·append-left, Memᴰ·append-right}
 use mathlib.Core.Logic.{_⊎_, inl, inr}
 use lib.Dec.{T}
-use Rattle.rules.specs.Lists.{any}
-use Rattle.rules.proofs.Booleans.{or-l, or-r, or-cases}
+use Rattle.rules.specs.Lists.{any, all, isEmpty, consIf, keepIf, Pairwise}
+use Rattle.rules.proofs.Booleans.{T-or, and-i, and-l, and-r, or-l, or-r, or-cases, or-assoc}
+
+-- ---- tests
 
 module _ {A : Type 0} (p : A → Bool) where
   pub any-some : (l : List A) → T (any p l) → (x : A) × List·Memᴰ x l × T (p x)
@@ -19,3 +22,181 @@ module _ {A : Type 0} (p : A → Bool) where
   pub some-any : {l : List A} {x : A} → List·Memᴰ x l → T (p x) → T (any p l)
   some-any (List·Memᴰ·head {x = x} {xs = xs} e) t = or-l (p x) (any p xs) (subst (λ (z : A). T (p z)) e t)
   some-any (List·Memᴰ·tail {x = x} {xs = xs} m) t = or-r (p x) (any p xs) (some-any m t)
+
+  pub all-each : {l : List A} {x : A} → T (all p l) → List·Memᴰ x l → T (p x)
+  all-each t (List·Memᴰ·head {x = x} {xs = xs} e) = subst (λ (z : A). T (p z)) (sym e) (and-l (p x) (all p xs) t)
+  all-each t (List·Memᴰ·tail {x = x} {xs = xs} m) = all-each (and-r (p x) (all p xs) t) m
+
+  pub each-all : (l : List A) → ((x : A) → List·Memᴰ x l → T (p x)) → T (all p l)
+  each-all [] f = tt
+  each-all (x ∷ xs) f = and-i (p x) (all p xs) (f x (List·Memᴰ·head refl)) (each-all xs (λ y m. f y (List·Memᴰ·tail m)))
+
+  pub any-append : (l r : List A) → any p (l ++ r) ≡ (any p l || any p r)
+  any-append [] r = refl
+  any-append (x ∷ xs) r = ap (λ (b : Bool). p x || b) (any-append xs r) ∙ sym (or-assoc (p x) (any p xs) (any p r))
+
+module _ {A : Type 0} where
+  pub some-element : (l : List A) → T (not (isEmpty l)) → (x : A) × List·Memᴰ x l
+  some-element [] t = absurd t
+  some-element (x ∷ xs) t = (x, List·Memᴰ·head refl)
+
+  pub element-some : {l : List A} {x : A} → List·Memᴰ x l → T (not (isEmpty l))
+  element-some (List·Memᴰ·head e) = tt
+  element-some (List·Memᴰ·tail m) = tt
+
+-- ---- the elements that pass
+
+module _ {A : Type 0} where
+  pub consIf-tail : (b : Bool) (x : A) {xs : List A} {y : A} → List·Memᴰ y xs → List·Memᴰ y (consIf b x xs)
+  consIf-tail true x m = List·Memᴰ·tail m
+  consIf-tail false x m = m
+
+  pub consIf-head : (b : Bool) (x : A) (xs : List A) {y : A} → T b → y ≡ x → List·Memᴰ y (consIf b x xs)
+  consIf-head true x xs t e = List·Memᴰ·head e
+  consIf-head false x xs t e = absurd t
+
+  pub consIf-cases : (b : Bool) (x : A) {xs : List A} {y : A} → List·Memᴰ y (consIf b x xs) → (T b × (y ≡ x)) ⊎ List·Memᴰ y xs
+  consIf-cases true x m = go (List·Memᴰ·cases-cons m)
+    where
+      go : {xs : List A} {y : A} → (y ≡ x) ⊎ List·Memᴰ y xs → (Unit {0} × (y ≡ x)) ⊎ List·Memᴰ y xs
+      go (inl e) = inl (tt, e)
+      go (inr n) = inr n
+  consIf-cases false x m = inr m
+
+  pub consIf-append : (b : Bool) (x : A) (l r : List A) → consIf b x (l ++ r) ≡ consIf b x l ++ r
+  consIf-append true x l r = refl
+  consIf-append false x l r = refl
+
+module _ {A : Type 0} (p : A → Bool) where
+  pub keepIf-mem : {l : List A} {x : A} → List·Memᴰ x l → T (p x) → List·Memᴰ x (keepIf p l)
+  keepIf-mem (List·Memᴰ·head {x = x} {xs = xs} e) t = consIf-head (p x) x (keepIf p xs) (subst (λ (z : A). T (p z)) e t) e
+  keepIf-mem (List·Memᴰ·tail {x = x} m) t = consIf-tail (p x) x (keepIf-mem m t)
+
+  pub mem-keepIf : (l : List A) {x : A} → List·Memᴰ x (keepIf p l) → List·Memᴰ x l × T (p x)
+  mem-keepIf [] m = absurd (List·Memᴰ·not-nil m)
+  mem-keepIf (x ∷ xs) {x = y} m = go (consIf-cases (p x) x m) (λ n. mem-keepIf xs n)
+    where
+      go : (T (p x) × (y ≡ x)) ⊎ List·Memᴰ y (keepIf p xs) → (List·Memᴰ y (keepIf p xs) → List·Memᴰ y xs × T (p y)) → List·Memᴰ y (x ∷ xs) × T (p y)
+      go (inl h) more = (List·Memᴰ·head (h .1), subst (λ (z : A). T (p z)) (sym (h .1)) (h .0))
+      go (inr n) more = (List·Memᴰ·tail (more n .0), more n .1)
+
+  pub keepIf-append : (l r : List A) → keepIf p (l ++ r) ≡ keepIf p l ++ keepIf p r
+  keepIf-append [] r = refl
+  keepIf-append (x ∷ xs) r = ap (consIf (p x) x) (keepIf-append xs r) ∙ consIf-append (p x) x (keepIf p xs) (keepIf p r)
+
+-- ---- only the values at the elements matter
+
+module _ {A : Type 0} (p q : A → Bool) where
+  pub all-cong : (l : List A) → ((x : A) → List·Memᴰ x l → p x ≡ q x) → all p l ≡ all q l
+  all-cong [] f = refl
+  all-cong (x ∷ xs) f = ap₂ (λ (a b : Bool). a && b) (f x (List·Memᴰ·head refl)) (all-cong xs (λ y m. f y (List·Memᴰ·tail m)))
+
+  pub any-cong : (l : List A) → ((x : A) → List·Memᴰ x l → p x ≡ q x) → any p l ≡ any q l
+  any-cong [] f = refl
+  any-cong (x ∷ xs) f = ap₂ (λ (a b : Bool). a || b) (f x (List·Memᴰ·head refl)) (any-cong xs (λ y m. f y (List·Memᴰ·tail m)))
+
+  pub keepIf-cong : (l : List A) → ((x : A) → List·Memᴰ x l → p x ≡ q x) → keepIf p l ≡ keepIf q l
+  keepIf-cong [] f = refl
+  keepIf-cong (x ∷ xs) f = ap₂ (λ (b : Bool) (l : List A). consIf b x l) (f x (List·Memᴰ·head refl)) (keepIf-cong xs (λ y m. f y (List·Memᴰ·tail m)))
+
+-- ---- lists made of other lists' elements
+
+module _ {A B : Type 0} (f : A → B) where
+  pub map-mem : {l : List A} {x : A} → List·Memᴰ x l → List·Memᴰ (f x) (map f l)
+  map-mem (List·Memᴰ·head e) = List·Memᴰ·head (ap f e)
+  map-mem (List·Memᴰ·tail m) = List·Memᴰ·tail (map-mem m)
+
+  pub mem-map : (l : List A) {y : B} → List·Memᴰ y (map f l) → (x : A) × List·Memᴰ x l × (y ≡ f x)
+  mem-map [] m = absurd (List·Memᴰ·not-nil m)
+  mem-map (x ∷ xs) {y} m = go (List·Memᴰ·cases-cons m) (λ n. mem-map xs n)
+    where
+      go : (y ≡ f x) ⊎ List·Memᴰ y (map f xs) → (List·Memᴰ y (map f xs) → (z : A) × List·Memᴰ z xs × (y ≡ f z)) → (z : A) × List·Memᴰ z (x ∷ xs) × (y ≡ f z)
+      go (inl e) more = (x, List·Memᴰ·head refl, e)
+      go (inr n) more = (more n .0, List·Memᴰ·tail (more n .1), more n .2)
+
+  pub any-map : (p : B → Bool) (l : List A) → any p (map f l) ≡ any (λ x. p (f x)) l
+  any-map p [] = refl
+  any-map p (x ∷ xs) = ap (λ (b : Bool). p (f x) || b) (any-map p xs)
+
+  pub map-append : (l r : List A) → map f (l ++ r) ≡ map f l ++ map f r
+  map-append [] r = refl
+  map-append (x ∷ xs) r = ap (λ (l : List B). f x ∷ l) (map-append xs r)
+
+  pub keepIf-map : (p : B → Bool) (l : List A) → keepIf p (map f l) ≡ map f (keepIf (λ x. p (f x)) l)
+  keepIf-map p [] = refl
+  keepIf-map p (x ∷ xs) = go (p (f x)) (keepIf-map p xs)
+    where
+      go : (b : Bool) → keepIf p (map f xs) ≡ map f (keepIf (λ x. p (f x)) xs) → consIf b (f x) (keepIf p (map f xs)) ≡ map f (consIf b x (keepIf (λ x. p (f x)) xs))
+      go true e = ap (λ (z : List B). f x ∷ z) e
+      go false e = e
+
+module _ {A B : Type 0} (f : A → List B) where
+  pub mem-flatMap : (l : List A) {y : B} → List·Memᴰ y (flatMap f l) → (x : A) × List·Memᴰ x l × List·Memᴰ y (f x)
+  unfolding flatMap
+  mem-flatMap [] m = absurd (List·Memᴰ·not-nil m)
+  mem-flatMap (x ∷ xs) {y} m = go (List·Memᴰ·append-cases (f x) m) (λ n. mem-flatMap xs n)
+    where
+      go : List·Memᴰ y (f x) ⊎ List·Memᴰ y (flatMap f xs) → (List·Memᴰ y (flatMap f xs) → (z : A) × List·Memᴰ z xs × List·Memᴰ y (f z))
+          → (z : A) × List·Memᴰ z (x ∷ xs) × List·Memᴰ y (f z)
+      go (inl h) more = (x, List·Memᴰ·head refl, h)
+      go (inr n) more = (more n .0, List·Memᴰ·tail (more n .1), more n .2)
+
+  pub flatMap-mem : {l : List A} {x : A} {y : B} → List·Memᴰ x l → List·Memᴰ y (f x) → List·Memᴰ y (flatMap f l)
+  unfolding flatMap
+  flatMap-mem {y = y} (List·Memᴰ·head {x = x} {xs = xs} e) n = Memᴰ·append-left (flatMap f xs) (subst (λ (z : A). List·Memᴰ y (f z)) e n)
+  flatMap-mem (List·Memᴰ·tail {x = x} m) n = Memᴰ·append-right (f x) (flatMap-mem m n)
+
+  pub flatMap-append : (l r : List A) → flatMap f (l ++ r) ≡ flatMap f l ++ flatMap f r
+  unfolding flatMap
+  flatMap-append [] r = refl
+  flatMap-append (x ∷ xs) r = ap (λ (z : List B). f x ++ z) (flatMap-append xs r) ∙ sym (append-assoc (f x) (flatMap f xs) (flatMap f r))
+
+  pub flatMap-cong : (g : A → List B) (l : List A) → ((x : A) → List·Memᴰ x l → f x ≡ g x) → flatMap f l ≡ flatMap g l
+  unfolding flatMap
+  flatMap-cong g [] h = refl
+  flatMap-cong g (x ∷ xs) h = ap₂ (λ (a b : List B). a ++ b) (h x (List·Memᴰ·head refl)) (flatMap-cong g xs (λ y m. h y (List·Memᴰ·tail m)))
+
+  pub keepIf-flatMap : (p : B → Bool) (l : List A) → keepIf p (flatMap f l) ≡ flatMap (λ x. keepIf p (f x)) l
+  unfolding flatMap
+  keepIf-flatMap p [] = refl
+  keepIf-flatMap p (x ∷ xs) = keepIf-append p (f x) (flatMap f xs) ∙ ap (λ (z : List B). keepIf p (f x) ++ z) (keepIf-flatMap p xs)
+
+-- ---- every two elements
+
+module _ {A : Type 0} (R : A → A → Type 0) where
+  pub pairwise-append : (l r : List A) → Pairwise R l → Pairwise R r → ((x y : A) → List·Memᴰ x l → List·Memᴰ y r → R x y) → Pairwise R (l ++ r)
+  pairwise-append [] r p q f = q
+  pairwise-append (x ∷ xs) r p q f =
+      (λ y m. later y (List·Memᴰ·append-cases xs m), pairwise-append xs r (p .1) q (λ u v m n. f u v (List·Memᴰ·tail m) n))
+    where
+      later : (y : A) → List·Memᴰ y xs ⊎ List·Memᴰ y r → R x y
+      later y (inl m) = p .0 y m
+      later y (inr n) = f x y (List·Memᴰ·head refl) n
+
+  pub pairwise-consIf : (b : Bool) (x : A) (l : List A) → ((y : A) → List·Memᴰ y l → R x y) → Pairwise R l → Pairwise R (consIf b x l)
+  pairwise-consIf true x l f p = (f, p)
+  pairwise-consIf false x l f p = p
+
+  pub pairwise-keepIf : (p : A → Bool) (l : List A) → Pairwise R l → Pairwise R (keepIf p l)
+  pairwise-keepIf p [] h = h
+  pairwise-keepIf p (x ∷ xs) h = pairwise-consIf (p x) x (keepIf p xs) (λ y m. h .0 y (mem-keepIf p xs m .0)) (pairwise-keepIf p xs (h .1))
+
+module _ {A B : Type 0} (Q : A → A → Type 0) (R : B → B → Type 0) where
+  pub pairwise-map : (f : A → B) (l : List A) → ((x y : A) → Q x y → R (f x) (f y)) → Pairwise Q l → Pairwise R (map f l)
+  pairwise-map f [] h p = tt
+  pairwise-map f (x ∷ xs) h p = (λ y m. later y (mem-map f xs m), pairwise-map f xs h (p .1))
+    where
+      later : (y : B) → (z : A) × List·Memᴰ z xs × (y ≡ f z) → R (f x) y
+      later y (z, m, e) = subst (R (f x)) (sym e) (h x z (p .0 z m))
+
+  -- R within each list f x, and from a list to every later one
+  pub pairwise-flatMap : (f : A → List B) (l : List A) → ((x : A) → Pairwise R (f x))
+      → ((x y : A) → Q x y → (u v : B) → List·Memᴰ u (f x) → List·Memᴰ v (f y) → R u v) → Pairwise Q l → Pairwise R (flatMap f l)
+  unfolding flatMap
+  pairwise-flatMap f [] within across p = tt
+  pairwise-flatMap f (x ∷ xs) within across p =
+      pairwise-append R (f x) (flatMap f xs) (within x) (pairwise-flatMap f xs within across (p .1))
+      (λ u v m n. later u v m (mem-flatMap f xs n))
+    where
+      later : (u v : B) → List·Memᴰ u (f x) → (z : A) × List·Memᴰ z xs × List·Memᴰ v (f z) → R u v
+      later u v m (z, k, n) = across x z (p .0 z k) u v m n

@@ -1,3 +1,12 @@
 pub mod Lists
+pub mod Below
 pub mod Sets
 pub mod Rows
+pub mod Machines
+pub mod Actions
+pub mod Moves
+pub mod Relations
+pub mod Rounds
+pub mod Runs
+pub mod Join
+pub mod Examples

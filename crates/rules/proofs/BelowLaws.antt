@@ -1,0 +1,131 @@
+-- Laws of lists, sums and largest values below a number, and of counts of pairs. Relies on nothing.
+use Prim.Native.Nat.{ℕ, zero, suc, _+_, _*_, _≤_, _<_, max}
+use mathlib.Core.Path.{_≡_, refl, sym, ap, ap₂, _∙_, subst}
+use mathlib.Core.Bool.{Bool, true, false, not}
+use mathlib.Core.List.{List, [], _∷_, _++_}
+use mathlib.Core.Logic.{_⊎_, inl, inr}
+use native.Mathlib.Omega.{arith}
+use native.Mathlib.Nat.{mul-one}
+use lib.Dec.{T, not-T, leb, leb→le, nleb→lt, ltb, ltb→lt, nltb→le}
+use lib.ListN.{length, getD}
+use Rattle.rules.specs.Below.{listBelow, sumBelow, maxBelow, one}
+use Rattle.rules.specs.Machines.{Machine}
+use Rattle.rules.specs.Rounds.{countPairs}
+use Rattle.rules.proofs.Booleans.{T-or}
+
+-- a number below n + 1 is below n or is n
+pub lt-cases : (j n : ℕ) → j < suc n → (j < n) ⊎ (j ≡ n)
+lt-cases j n h = go (T-or (ltb j n))
+  where
+    go : T (ltb j n) ⊎ (T (ltb j n) → ⊥) → (j < n) ⊎ (j ≡ n)
+    go (inl t) = inl (ltb→lt j n t)
+    go (inr f) = inr (omega (arith, nltb→le j n (not-T (ltb j n) f)))
+
+pub sum-mono : (n : ℕ) (f g : ℕ → ℕ) → ((i : ℕ) → i < n → f i ≤ g i) → sumBelow n f ≤ sumBelow n g
+sum-mono zero f g h = omega arith
+sum-mono (suc n) f g h = omega (arith, sum-mono n f g (λ i l. h i (omega arith)), h n (omega arith))
+
+-- two sums, one below the other at each place, agree only where all places do
+pub sum-same : (n : ℕ) (f g : ℕ → ℕ) → ((i : ℕ) → i < n → f i ≤ g i) → sumBelow n g ≤ sumBelow n f → (i : ℕ) → i < n → g i ≤ f i
+sum-same zero f g h e i l = absurd (omega arith)
+sum-same (suc n) f g h e i l = go (lt-cases i n l) (λ k. sum-same n f g (λ i l. h i (omega arith)) (omega (arith, h n (omega arith))) i k)
+  where
+    go : (i < n) ⊎ (i ≡ n) → (i < n → g i ≤ f i) → g i ≤ f i
+    go (inl k) more = more k
+    go (inr k) more = subst (λ (x : ℕ). g x ≤ f x) (sym k) (omega (arith, sum-mono n f g (λ i l. h i (omega arith))))
+
+pub sum-add : (n : ℕ) (f g : ℕ → ℕ) → sumBelow n (λ i. f i + g i) ≡ sumBelow n f + sumBelow n g
+sum-add zero f g = refl
+sum-add (suc n) f g = omega (arith, sum-add n f g)
+
+pub sum-cong : (n : ℕ) (f g : ℕ → ℕ) → ((i : ℕ) → i < n → f i ≡ g i) → sumBelow n f ≡ sumBelow n g
+sum-cong zero f g h = refl
+sum-cong (suc n) f g h = ap₂ (λ (a b : ℕ). a + b) (sum-cong n f g (λ i l. h i (omega arith))) (h n (omega arith))
+
+pub sum-const : (n c : ℕ) → sumBelow n (λ i. c) ≡ n * c
+sum-const zero c = omega arith
+sum-const (suc n) c = omega (arith, sum-const n c)
+
+pub max-above : (n : ℕ) (f : ℕ → ℕ) (i : ℕ) → i < n → f i ≤ maxBelow n f
+max-above zero f i l = absurd (omega arith)
+max-above (suc n) f i l = go (lt-cases i n l) (λ k. max-above n f i k)
+  where
+    go : (i < n) ⊎ (i ≡ n) → (i < n → f i ≤ maxBelow n f) → f i ≤ max (maxBelow n f) (f n)
+    go (inl k) more = omega (arith, more k)
+    go (inr k) more = subst (λ (x : ℕ). f x ≤ max (maxBelow n f) (f n)) (sym k) (omega arith)
+
+-- the largest value is 0 or is taken
+pub max-taken : (n : ℕ) (f : ℕ → ℕ) → (maxBelow n f ≡ 0) ⊎ ((i : ℕ) × (i < n) × (f i ≡ maxBelow n f))
+max-taken zero f = inl refl
+max-taken (suc n) f = go (T-or (leb (maxBelow n f) (f n))) (max-taken n f)
+  where
+    Taken : ℕ → Type 0
+    Taken n = (maxBelow n f ≡ 0) ⊎ ((i : ℕ) × (i < n) × (f i ≡ maxBelow n f))
+
+    earlier : f n < maxBelow n f → Taken n → Taken (suc n)
+    earlier l (inl e) = absurd (omega arith)
+    earlier l (inr (i, k, e)) = inr (i, omega arith, omega arith)
+
+    go : T (leb (maxBelow n f) (f n)) ⊎ (T (leb (maxBelow n f) (f n)) → ⊥) → Taken n → Taken (suc n)
+    go (inl t) more = inr (n, omega arith, omega (arith, leb→le (maxBelow n f) (f n) t))
+    go (inr t) more = earlier (nleb→lt (maxBelow n f) (f n) (not-T (leb (maxBelow n f) (f n)) t)) more
+
+pub max-le : (n : ℕ) (f : ℕ → ℕ) (b : ℕ) → ((i : ℕ) → i < n → f i ≤ b) → maxBelow n f ≤ b
+max-le zero f b h = omega arith
+max-le (suc n) f b h = omega (arith, max-le n f b (λ i l. h i (omega arith)), h n (omega arith))
+
+pub one-le : (b : Bool) → one b ≤ 1
+one-le true = omega arith
+one-le false = omega arith
+
+pub one-mono : (a b : Bool) → (T a → T b) → one a ≤ one b
+one-mono true true f = omega arith
+one-mono true false f = absurd (f tt)
+one-mono false true f = omega arith
+one-mono false false f = omega arith
+
+pub one-back : (a b : Bool) → one b ≤ one a → T b → T a
+one-back true b h t = tt
+one-back false true h t = absurd (omega arith)
+one-back false false h t = t
+
+pub one-not : (b : Bool) → one b + one (not b) ≡ 1
+one-not true = refl
+one-not false = refl
+
+-- ---- counts of pairs of states
+
+module _ (D S : Machine) (p q : ℕ → ℕ → Bool) where
+  pub count-mono : ((t s : ℕ) → t < D .n → s < S .n → T (p t s) → T (q t s)) → countPairs D S p ≤ countPairs D S q
+  unfolding countPairs
+  count-mono h =
+      sum-mono (D .n) (λ t. sumBelow (S .n) (λ s. one (p t s))) (λ t. sumBelow (S .n) (λ s. one (q t s)))
+      (λ t l. sum-mono (S .n) (λ s. one (p t s)) (λ s. one (q t s)) (λ s k. one-mono (p t s) (q t s) (h t s l k)))
+
+  -- a set inside another and no smaller is the other
+  pub count-same : ((t s : ℕ) → t < D .n → s < S .n → T (p t s) → T (q t s)) → countPairs D S q ≤ countPairs D S p
+      → (t s : ℕ) → t < D .n → s < S .n → T (q t s) → T (p t s)
+  unfolding countPairs
+  count-same h e t s l k =
+      one-back (p t s) (q t s)
+      (sum-same (S .n) (λ s. one (p t s)) (λ s. one (q t s)) (λ s k. one-mono (p t s) (q t s) (h t s l k))
+      (sum-same (D .n) (λ t. sumBelow (S .n) (λ s. one (p t s))) (λ t. sumBelow (S .n) (λ s. one (q t s)))
+      (λ t l. sum-mono (S .n) (λ s. one (p t s)) (λ s. one (q t s)) (λ s k. one-mono (p t s) (q t s) (h t s l k))) e t l)
+      s k)
+
+  pub count-cong : ((t s : ℕ) → t < D .n → s < S .n → p t s ≡ q t s) → countPairs D S p ≡ countPairs D S q
+  unfolding countPairs
+  count-cong h =
+      sum-cong (D .n) (λ t. sumBelow (S .n) (λ s. one (p t s))) (λ t. sumBelow (S .n) (λ s. one (q t s)))
+      (λ t l. sum-cong (S .n) (λ s. one (p t s)) (λ s. one (q t s)) (λ s k. ap one (h t s l k)))
+
+-- those that pass and those that fail are all
+pub count-not : (D S : Machine) (p : ℕ → ℕ → Bool) → countPairs D S p + countPairs D S (λ t s. not (p t s)) ≡ D .n * S .n
+unfolding countPairs
+count-not D S p =
+    sym (sum-add (D .n) (λ t. sumBelow (S .n) (λ s. one (p t s))) (λ t. sumBelow (S .n) (λ s. one (not (p t s)))))
+    ∙ sum-cong (D .n) (λ t. sumBelow (S .n) (λ s. one (p t s)) + sumBelow (S .n) (λ s. one (not (p t s)))) (λ t. S .n)
+    (λ t l. sym (sum-add (S .n) (λ s. one (p t s)) (λ s. one (not (p t s))))
+    ∙ sum-cong (S .n) (λ s. one (p t s) + one (not (p t s))) (λ s. 1) (λ s k. one-not (p t s))
+    ∙ sum-const (S .n) 1 ∙ mul-one (S .n))
+    ∙ sum-const (D .n) (S .n)
