@@ -2,12 +2,14 @@
 use Prim.Native.Nat.{ℕ, zero, suc, _+_, _*_, _≤_, _<_, max}
 use mathlib.Core.Path.{_≡_, refl, sym, ap, ap₂, _∙_, subst}
 use mathlib.Core.Bool.{Bool, true, false, not}
-use mathlib.Core.List.{List, [], _∷_, _++_}
+use mathlib.Core.List.{List, [], _∷_, _++_, append-nil, append-assoc, List·Memᴰ, List·Memᴰ·head, Memᴰ·append-left, Memᴰ·append-right}
 use mathlib.Core.Logic.{_⊎_, inl, inr}
 use native.Mathlib.Omega.{arith}
+use native.Mathlib.Decide.{le-ind}
 use native.Mathlib.Nat.{mul-one}
 use lib.Dec.{T, not-T, leb, leb→le, nleb→lt, ltb, ltb→lt, nltb→le}
-use lib.ListN.{length, getD}
+use lib.ListN.{length, getD, length-append, List·getD-append}
+use lib.Seq.{getD-append-add}
 use Rattle.rules.specs.Below.{listBelow, sumBelow, maxBelow, one}
 use Rattle.rules.specs.Machines.{Machine}
 use Rattle.rules.specs.Rounds.{countPairs}
@@ -20,6 +22,41 @@ lt-cases j n h = go (T-or (ltb j n))
     go : T (ltb j n) ⊎ (T (ltb j n) → ⊥) → (j < n) ⊎ (j ≡ n)
     go (inl t) = inl (ltb→lt j n t)
     go (inr f) = inr (omega (arith, nltb→le j n (not-T (ltb j n) f)))
+
+-- ---- lists
+
+at-seam : {A : Type 0} (l r : List A) (d : A) (i k : ℕ) → i ≡ length l + k → getD (l ++ r) i d ≡ getD r k d
+at-seam l r d i k e = ap (λ (x : ℕ). getD (l ++ r) x d) e ∙ getD-append-add l r k d
+
+module _ {A : Type 0} (f : ℕ → A) where
+  pub length-listBelow : (n : ℕ) → length (listBelow n f) ≡ n
+  length-listBelow zero = refl
+  length-listBelow (suc n) = length-append (listBelow n f) (f n ∷ []) ∙ omega (arith, length-listBelow n)
+
+  pub getD-listBelow : (d : A) (n i : ℕ) → i < n → getD (listBelow n f) i d ≡ f i
+  getD-listBelow d zero i l = absurd (omega arith)
+  getD-listBelow d (suc n) i l = go (lt-cases i n l) (λ k. getD-listBelow d n i k)
+    where
+      go : (i < n) ⊎ (i ≡ n) → (i < n → getD (listBelow n f) i d ≡ f i) → getD (listBelow n f ++ (f n ∷ [])) i d ≡ f i
+      go (inl k) more = List·getD-append (listBelow n f) (f n ∷ []) d i (omega (arith, length-listBelow n)) ∙ more k
+      go (inr e) more = at-seam (listBelow n f) (f n ∷ []) d i 0 (omega (arith, length-listBelow n)) ∙ ap f (sym e)
+
+  pub listBelow-mem : (n i : ℕ) → i < n → List·Memᴰ (f i) (listBelow n f)
+  listBelow-mem zero i l = absurd (omega arith)
+  listBelow-mem (suc n) i l = go (lt-cases i n l) (λ k. listBelow-mem n i k)
+    where
+      go : (i < n) ⊎ (i ≡ n) → (i < n → List·Memᴰ (f i) (listBelow n f)) → List·Memᴰ (f i) (listBelow n f ++ (f n ∷ []))
+      go (inl k) more = Memᴰ·append-left (f n ∷ []) (more k)
+      go (inr e) more = Memᴰ·append-right (listBelow n f) (List·Memᴰ·head (ap f e))
+
+  -- a longer list starts with a shorter one
+  pub listBelow-split : (i n : ℕ) → i ≤ n → (rest : List A) × (listBelow n f ≡ listBelow i f ++ rest)
+  listBelow-split i n l = le-ind (λ (m : ℕ). (rest : List A) × (listBelow m f ≡ listBelow i f ++ rest)) ([], sym (append-nil (listBelow i f))) further n l
+    where
+      further : (m : ℕ) → i ≤ m → (rest : List A) × (listBelow m f ≡ listBelow i f ++ rest) → (rest : List A) × (listBelow (suc m) f ≡ listBelow i f ++ rest)
+      further m k (rest, e) = (rest ++ (f m ∷ []), ap (λ (z : List A). z ++ (f m ∷ [])) e ∙ append-assoc (listBelow i f) rest (f m ∷ []))
+
+-- ---- sums and largest values
 
 pub sum-mono : (n : ℕ) (f g : ℕ → ℕ) → ((i : ℕ) → i < n → f i ≤ g i) → sumBelow n f ≤ sumBelow n g
 sum-mono zero f g h = omega arith

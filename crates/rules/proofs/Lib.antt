@@ -1,12 +1,13 @@
 pub mod Booleans
 pub mod ListLaws
+pub mod BelowLaws
+pub mod SliceLaws
 pub mod SetLaws
 pub mod MaximalLaws
 pub mod RowLaws
 pub mod MachineLaws
 pub mod MoveLaws
 pub mod ActionLaws
-pub mod BelowLaws
 pub mod RelationLaws
 pub mod RoundLaws
 pub mod MarkLaws

@@ -1,5 +1,5 @@
 -- Laws of the order of rows: it is strict and transitive. Relies on nothing.
-use Prim.Native.Nat.{ℕ, _<_}
+use Prim.Native.Nat.{ℕ, _≤_, _<_}
 use mathlib.Core.Path.{_≡_, refl, sym}
 use mathlib.Core.Bool.{Bool, true, false, _||_, _&&_}
 use mathlib.Core.Logic.{_⊎_, inl, inr}
@@ -62,3 +62,12 @@ rises-trans a b c s t =
     (before-trans (a .set) (b .set) (c .set) _ _ _
     (λ p q. let l = ltb→lt (a .target) (b .target) p in let m = ltb→lt (b .target) (c .target) q in lt→ltb (a .target) (c .target) (omega arith)))
     (true-T _ s) (true-T _ t))
+
+-- a row that rises to another does not leave a higher state
+pub rises-from : (a b : Row) → rises a b ≡ true → a .from ≤ b .from
+unfolding rises
+rises-from a b s = go (before-cases (a .from) (b .from) (before (a .set) (b .set) (ltb (a .target) (b .target))) (true-T _ s))
+  where
+    go : (a .from < b .from) ⊎ ((a .from ≡ b .from) × T (before (a .set) (b .set) (ltb (a .target) (b .target)))) → a .from ≤ b .from
+    go (inl l) = omega arith
+    go (inr e) = let same = e .0 in omega arith

@@ -1,5 +1,6 @@
 pub mod Lists
 pub mod Below
+pub mod Slices
 pub mod Sets
 pub mod Rows
 pub mod Machines

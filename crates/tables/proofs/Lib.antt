@@ -2,3 +2,4 @@ pub mod CheckLaws
 pub mod FileLaws
 pub mod AcceptedLaws
 pub mod BodyLaws
+pub mod TableLaws

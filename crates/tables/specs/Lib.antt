@@ -5,3 +5,4 @@ pub mod Part
 pub mod Open
 pub mod Body
 pub mod Accepted
+pub mod Tables

@@ -12,6 +12,7 @@ mod reads;
 
 pub use reads::Entry;
 pub use reads::entry_at;
+pub use reads::entry_body;
 pub use reads::row_at;
 
 // Why a call is turned back: document 01's number, and the place at fault. 0 and 0 where it is carried out.

@@ -71,7 +71,7 @@ pub fn entry_at(file: &[u8], i: usize) -> Entry
 }
 
 // The part of a file that holds the body of an entry.
-pub(crate) fn entry_body(file: &[u8], entry: Entry) -> &[u8]
+pub fn entry_body(file: &[u8], entry: Entry) -> &[u8]
     requires { ⌜ entry .offset + bodyLength entry ≤ length (now file) ⌝ }
     ensures { λ r. ⌜ PartOf (file .entry) r (span (entry .offset) (bodyLength entry)) ⌝ }
 {

@@ -1,0 +1,47 @@
+-- `moves::states::rows_of` meets its contract. FIN's row is its idle row; another state's rows stand between two first rows.
+use Prim.Native.Nat.{_/_}
+use mathlib.Core.Path.{ap, _∙_}
+use native.Mathlib.Omega.{arith}
+use lib.ListN.{length}
+use Rattle.moves.specs.States.{movesOf}
+use Rattle.moves.proofs.StateLaws.{fin-rows, first-order, state-rows}
+use borrow.Author.Needs.{needs}
+use Rattle.moves.proofs.states.rows_of.Statement.{statement}
+use Rattle.moves.proofs.states.rows_of.Tie as tie
+
+new-requires : tie.Need-new-requires
+new-requires c κs = search needs
+
+returns : tie.Need-returns
+returns c = rw (c .new .ensures, c .before .if1 .taken) (fin-rows _ (length (c .before .before .before .args .body .now) / 4))
+
+first-row-requires : tie.Need-first-row-requires
+first-row-requires c κs = search needs
+
+add-first-row : tie.Need-add-first-row
+add-first-row c = search needs
+
+first-row-requires-2 : tie.Need-first-row-requires-2
+first-row-requires-2 c κs = search needs
+
+sub-new : tie.Need-sub-new
+sub-new c = first-order _ _ _ _ (c .before .first-row .ensures) (c .first-row2 .ensures)
+
+new-requires-2 : tie.Need-new-requires-2
+new-requires-2 c κs = search needs
+
+returns-2 : tie.Need-returns-2
+returns-2 c = ap (movesOf _) (c .new2 .ensures) ∙ state-rows _ _ _ _ (c .before .before .before .before .before .pre) (c .before .before .first-row .ensures) (c .before .first-row2 .ensures) (c .before .before .before .if1 .left)
+
+pub rows-of-spec : {M : Type 1} → statement M
+rows-of-spec =
+    tie.close
+    (tie.spec
+    new-requires
+    returns
+    first-row-requires
+    add-first-row
+    first-row-requires-2
+    sub-new
+    new-requires-2
+    returns-2)
