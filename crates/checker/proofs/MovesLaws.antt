@@ -1,0 +1,69 @@
+-- Laws of Moves of a pair: the answer and the slice, by what the checks find. Relies on nothing.
+use Prim.Native.Nat.{ℕ, _*_, _/_, _≤_, _<_}
+use mathlib.Core.Path.{_≡_, refl, sym, ap, ap₂, _∙_}
+use mathlib.Core.List.{List, [], _∷_, flatMap}
+use native.Mathlib.Omega.{arith}
+use lib.ListN.{length, take, drop}
+use borrow.Author.Tests.{lt-ltb, le-ltb}
+use Rattle.rules.specs.declared.Move.{Move}
+use Rattle.rules.specs.Machines.{stateMoves}
+use Rattle.rules.specs.Slices.{writeAt, overwrite}
+use Rattle.rules.specs.Moves.{Candidate, survivorsOf, numbers}
+use Rattle.rules.proofs.SliceLaws.{writeAt-overwrite}
+use Rattle.tables.specs.declared.reads.Entry.{Entry}
+use Rattle.tables.specs.declared.Refusal.{Refusal}
+use Rattle.tables.specs.declared.Checked.the-variants.{Passed, Fault}
+use Rattle.tables.specs.Checks.{refuse, fault, _then_}
+use Rattle.tables.specs.Answers.{Answer, turnedBack, carriedOut}
+use Rattle.tables.specs.File.{entryOf, bodyLength}
+use Rattle.tables.specs.Tables.{rowsOf}
+use Rattle.moves.proofs.PairLaws.{numbers-length}
+use Rattle.checker.specs.declared.Question.{Question}
+use Rattle.checker.specs.Pairs.{pairChecks, Asked, survivorsAt}
+use Rattle.checker.specs.Moves.{movesChecks, movesAnswer, movesSlice}
+use Rattle.checker.proofs.PairLaws.{asked-checks, asked-demand, asked-supply, state-moves}
+
+module _ (s : List ℕ) (q : Question) where
+  -- by a number before 14
+  pub early-fault : (r : Refusal) (room : ℕ) → pairChecks s q ≡ Fault r → movesChecks s q room ≡ Fault r
+  unfolding movesChecks _then_
+  early-fault r room e = rw e refl
+
+  -- turned back: the refusal is the answer, and the slice is unchanged
+  pub turned-back : (r : Refusal) (entry : List ℕ) → movesChecks s q (length entry) ≡ Fault r
+      → (turnedBack r ≡ movesAnswer s q (length entry)) × (entry ≡ movesSlice s q entry)
+  unfolding movesAnswer movesSlice
+  turned-back r entry e = (rw e refl, rw e refl)
+
+  module _ (a : Asked s q) (cs : List Candidate) (same : cs ≡ survivorsAt s q) (count : ℕ) (counted : count ≡ length cs) where
+    -- by 14: 5 × count do not fit into room
+    pub short-fault : (room : ℕ) → room / 5 < count → movesChecks s q room ≡ Fault (refuse 14 0)
+    unfolding movesChecks _then_ fault
+    short-fault room l =
+        let short : room < 5 * length (survivorsAt s q) = omega (arith, ap length same) in
+        rw (asked-checks s q a, lt-ltb room (5 * length (survivorsAt s q)) short) refl
+
+    none-fault : (room : ℕ) → count ≤ room / 5 → movesChecks s q room ≡ Passed
+    unfolding movesChecks _then_ fault
+    none-fault room l =
+        let long : 5 * length (survivorsAt s q) ≤ room = omega (arith, ap length same) in
+        rw (asked-checks s q a, le-ltb room (5 * length (survivorsAt s q)) long) refl
+
+    -- carried out: the count is the answer, and the moves stand before the rest of the slice
+    pub carried-out : (entry exit : List ℕ) → count ≤ length entry / 5 → exit ≡ writeAt 0 (flatMap numbers cs) entry
+        → (carriedOut (count ∷ []) ≡ movesAnswer s q (length entry)) × (exit ≡ movesSlice s q entry)
+    unfolding movesAnswer movesSlice
+    carried-out entry exit l w =
+        let room : length (flatMap numbers cs) ≤ length entry = omega (arith, numbers-length cs) in
+        (rw (none-fault (length entry) l, counted, same) refl, rw (none-fault (length entry) l, ← same) (w ∙ writeAt-overwrite (flatMap numbers cs) entry room))
+
+-- the survivors of the moves that the two bodies give are those of the pair
+pub survivors-found : (s : List ℕ) (q : Question) → Asked s q
+    → (d : Entry) → d ≡ entryOf s (q .demand .table) → (b : List ℕ) → b ≡ take (bodyLength d) (drop (d .offset) s)
+    → (u : Entry) → u ≡ entryOf s (q .supply .table) → (g : List ℕ) → g ≡ take (bodyLength u) (drop (u .offset) s)
+    → (ts ss : List Move) → ts ≡ stateMoves (rowsOf b (length b / 4)) (q .demand .state) → ss ≡ stateMoves (rowsOf g (length g / 4)) (q .supply .state)
+    → survivorsOf ts ss ≡ survivorsAt s q
+survivors-found s q a d e b part u f g piece ts ss p r =
+    ap₂ survivorsOf
+    (state-moves s (q .demand .table) (q .demand .state) (asked-demand s q a) d e b part ts p)
+    (state-moves s (q .supply .table) (q .supply .state) (asked-supply s q a) u f g piece ss r)

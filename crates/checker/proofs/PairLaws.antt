@@ -1,0 +1,109 @@
+-- Laws of questions about a pair: what turns them back, and what the two bodies hold where nothing does. Relies on what Open guarantees.
+use Prim.Native.Nat.{ℕ, _+_, _*_, _/_, _≤_, _<_}
+use mathlib.Core.Path.{_≡_, refl, sym, ap, ap₂, _∙_, subst}
+use mathlib.Core.Bool.{Bool, false}
+use mathlib.Core.List.{List}
+use native.Mathlib.Omega.{arith}
+use lib.ListN.{length, take, drop}
+use borrow.Author.Tests.{leb-false}
+use Rattle.rules.specs.declared.Move.{Move}
+use Rattle.rules.specs.Machines.{stateMoves}
+use Rattle.tables.specs.declared.reads.Entry.{Entry}
+use Rattle.tables.specs.declared.Refusal.{Refusal}
+use Rattle.tables.specs.declared.Checked.{Checked}
+use Rattle.tables.specs.declared.Checked.the-variants.{Passed, Fault}
+use Rattle.tables.specs.declared.Opened.{Opened}
+use Rattle.tables.specs.declared.Opened.the-variants.{Tables, Refused}
+use Rattle.tables.specs.Checks.{fault, _then_}
+use Rattle.tables.specs.Answers.{opened}
+use Rattle.tables.specs.File.{tablesOf, entryOf, bodyLength, bodyOf}
+use Rattle.tables.specs.Open.{openOf, fileFault}
+use Rattle.tables.specs.Accepted.{TableBody, Accepted, Laid}
+use Rattle.tables.specs.Tables.{rowsOf, machineOf}
+use Rattle.tables.proofs.CheckLaws.{fault-passed, then-left, then-right}
+use Rattle.tables.proofs.AcceptedLaws.{tables-passed, refused-fault, passed-accepted, accepted-laid}
+use Rattle.moves.specs.States.{Sorted}
+use Rattle.moves.proofs.StateLaws.{body-sorted}
+use Rattle.checker.specs.declared.Question.{Question}
+use Rattle.checker.specs.Pairs.{pairFault, pairChecks, Asked}
+
+-- ---- what the checks find
+
+module _ (s : List ℕ) (q : Question) (o : Opened) (e : opened o ≡ openOf s) where
+  pub pair-refused : (r : Refusal) → o ≡ Refused r → pairChecks s q ≡ Fault r
+  unfolding pairChecks _then_
+  pair-refused r p = rw (refused-fault s r (rw p at e))
+
+  pub pair-fault : (k : ℕ) (c : Checked) (r : Refusal) → o ≡ Tables k → c ≡ pairFault s k q → c ≡ Fault r → pairChecks s q ≡ Fault r
+  unfolding pairChecks _then_
+  pair-fault k c r p f g = let t = tables-passed s k (rw p at e) in rw (t .0, t .1) (sym f ∙ g)
+
+  pub pair-asked : (k : ℕ) (c : Checked) → o ≡ Tables k → c ≡ pairFault s k q → c ≡ Passed → Asked s q
+  pair-asked k c p f g =
+      let t = tables-passed s k (rw p at e) in
+      record { file = t .0; pair = ap (λ (x : ℕ). pairFault s x q) (t .1) ∙ sym f ∙ g }
+
+pub asked-checks : (s : List ℕ) (q : Question) → Asked s q → pairChecks s q ≡ Passed
+unfolding pairChecks _then_
+asked-checks s q a = rw (a .file) (a .pair)
+
+-- ---- a table that was asked about
+
+-- table i is in the file, and q is one of its states
+pub record TableAt (s : List ℕ) (i q : ℕ) : Type 0 where
+  pub within : entryOf s i .offset + bodyLength (entryOf s i) ≤ length s
+  pub table : TableBody (entryOf s i .states) (entryOf s i .rows) (bodyOf s i)
+  pub state : q < entryOf s i .states
+
+table-at : (s : List ℕ) (i q : ℕ) → fileFault s ≡ Passed → i < tablesOf s → q < entryOf s i .states → TableAt s i q
+table-at s i q p l h =
+    let a : Accepted s (tablesOf s) = passed-accepted s p in
+    record { within = accepted-laid s (tablesOf s) a .within i l; table = a .table i l; state = h }
+
+module _ (s : List ℕ) (q : Question) (a : Asked s q) where
+  -- the six checks, and how each reads where it passes
+  abbrev passes : (t : Bool) (n p : ℕ) (rest : Checked) → fault t n p then rest ≡ Passed → t ≡ false
+  passes t n p rest e = fault-passed t n p (then-left (fault t n p) rest e)
+
+  pub asked-demand : TableAt s (q .demand .table) (q .demand .state)
+  unfolding pairFault
+  asked-demand =
+      let two = then-right _ _ (a .pair) in
+      let three = then-right _ _ two in
+      let four = then-right _ _ three in
+      let five = then-right _ _ four in
+      table-at s (q .demand .table) (q .demand .state) (a .file) (leb-false _ _ (passes _ _ _ _ (a .pair))) (leb-false _ _ (passes _ _ _ _ five))
+
+  pub asked-supply : TableAt s (q .supply .table) (q .supply .state)
+  unfolding pairFault
+  asked-supply =
+      let two = then-right _ _ (a .pair) in
+      let three = then-right _ _ two in
+      let four = then-right _ _ three in
+      let five = then-right _ _ four in
+      let six = then-right _ _ five in
+      table-at s (q .supply .table) (q .supply .state) (a .file) (leb-false _ _ (passes _ _ _ _ two)) (leb-false _ _ (fault-passed _ _ _ six))
+
+-- ---- its entry and its body
+
+module _ (s : List ℕ) (i q : ℕ) (t : TableAt s i q) (e : Entry) (read : e ≡ entryOf s i) where
+  pub body-within : e .offset + bodyLength e ≤ length s
+  body-within = subst (λ (x : Entry). x .offset + bodyLength x ≤ length s) (sym read) (t .within)
+
+  pub state-narrow : q < 256
+  state-narrow = let h : q < entryOf s i .states = t .state in let few : entryOf s i .states ≤ 64 = t .table .few-states in omega arith
+
+  module _ (body : List ℕ) (part : body ≡ take (bodyLength e) (drop (e .offset) s)) where
+    body-is : body ≡ bodyOf s i
+    unfolding bodyOf
+    body-is = part ∙ ap (λ (x : Entry). take (bodyLength x) (drop (x .offset) s)) read
+
+    pub sorted-body : Sorted body
+    sorted-body = subst Sorted (sym body-is) (body-sorted (entryOf s i .states) (entryOf s i .rows) (bodyOf s i) (t .table))
+
+    -- the moves of its rows are those of the table's machine
+    pub state-moves : (ms : List Move) → ms ≡ stateMoves (rowsOf body (length body / 4)) q → ms ≡ machineOf s i .moves q
+    state-moves ms h =
+        let long : length body ≡ 4 * entryOf s i .rows = ap length body-is ∙ t .table .four-bytes in
+        let count : length body / 4 ≡ entryOf s i .rows = omega arith in
+        h ∙ ap₂ (λ (b : List ℕ) (m : ℕ). stateMoves (rowsOf b m) q) body-is count

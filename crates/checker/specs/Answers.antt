@@ -1,0 +1,18 @@
+-- What the calls answer, in document 01's terms.
+use mathlib.Core.List.{List, [], _∷_}
+use Prim.Native.Nat.{ℕ}
+use Rattle.tables.specs.declared.Checked.{Checked}
+use Rattle.tables.specs.declared.Checked.the-variants.{Passed, Fault}
+use Rattle.tables.specs.Answers.{Answer, carriedOut, turnedBack}
+use Rattle.checker.specs.declared.Counted.{Counted}
+use Rattle.checker.specs.declared.Counted.the-variants.{Count, Refused}
+
+-- the cases of `Counted`: "The count is returned"
+abbrev pub counted : Counted → Answer
+counted (Count n) = carriedOut (n ∷ [])
+counted (Refused r) = turnedBack r
+
+-- what a lent slice holds at the end: "All lent buffers then hold what they held", where a call is turned back
+abbrev pub sliceAfter : Checked → List ℕ → List ℕ → List ℕ
+sliceAfter Passed written entry = written
+sliceAfter (Fault r) written entry = entry

@@ -1,0 +1,44 @@
+-- Questions about a pair of states of two tables. Document 01, 'Operations and what they turn back'.
+use Prim.Native.Nat.{ℕ, _<_}
+use mathlib.Core.Path.{_≡_}
+use mathlib.Core.Bool.{Bool, not}
+use mathlib.Core.List.{List}
+use lib.Dec.{leb, eqb}
+use Rattle.rules.specs.Machines.{Machine}
+use Rattle.rules.specs.Moves.{Candidate, survivors}
+use Rattle.tables.specs.declared.Checked.{Checked}
+use Rattle.tables.specs.declared.Checked.the-variants.{Passed, Fault}
+use Rattle.tables.specs.Checks.{fault, _then_}
+use Rattle.tables.specs.File.{tablesOf, entryOf}
+use Rattle.tables.specs.Open.{fileFault}
+use Rattle.tables.specs.Tables.{machineOf}
+use Rattle.checker.specs.declared.Question.{Question}
+
+-- "11 for demand, then supply; 12 wrong kind, demand then supply; 13 state not below n, demand then supply", in a file of k tables
+unfoldable pub pairFault : List ℕ → ℕ → Question → Checked
+pairFault s k q =
+    fault (leb k (q .demand .table)) 11 0
+    then fault (leb k (q .supply .table)) 11 0
+    then fault (not (eqb (entryOf s (q .demand .table) .kind) 1)) 12 0
+    then fault (not (eqb (entryOf s (q .supply .table) .kind) 2)) 12 0
+    then fault (leb (entryOf s (q .demand .table) .states) (q .demand .state)) 13 0
+    then fault (leb (entryOf s (q .supply .table) .states) (q .supply .state)) 13 0
+
+-- "After Open's"
+unfoldable pub pairChecks : List ℕ → Question → Checked
+pairChecks s q = fileFault s then pairFault s (tablesOf s) q
+
+-- none of these numbers applies
+pub record Asked (s : List ℕ) (q : Question) : Type 0 where
+  pub file : fileFault s ≡ Passed
+  pub pair : pairFault s (tablesOf s) q ≡ Passed
+
+-- the two machines, and the surviving moves of the pair
+abbrev pub demandOf : List ℕ → Question → Machine
+demandOf s q = machineOf s (q .demand .table)
+
+abbrev pub supplyOf : List ℕ → Question → Machine
+supplyOf s q = machineOf s (q .supply .table)
+
+abbrev pub survivorsAt : List ℕ → Question → List Candidate
+survivorsAt s q = survivors (demandOf s q) (supplyOf s q) (q .demand .state) (q .supply .state)

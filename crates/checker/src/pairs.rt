@@ -1,0 +1,60 @@
+// Questions about a pair of states: what turns them back after opening, and their answers where nothing does.
+ghost use mathlib.Core.Path.{_≡_};
+ghost use lib.ListN.{length};
+ghost use Rattle.tables.specs.File.{tablesOf};
+ghost use Rattle.checker.specs.Answers.{counted};
+ghost use Rattle.checker.specs.Pairs.{pairFault, Asked};
+ghost use Rattle.checker.specs.Moves.{movesAnswer, movesSlice};
+use crate::Counted;
+use crate::Question;
+use moves::rows_of;
+use tables::Checked;
+use tables::Entry;
+use tables::Refusal;
+use tables::entry_at;
+use tables::entry_body;
+
+// What turns back a question about a pair in a file of k tables.
+pub(crate) fn check_pair(file: &[u8], k: usize, question: Question) -> Checked
+    ensures { λ r. ⌜ r ≡ pairFault (now (file .entry)) k question ⌝ }
+{
+    if k <= question.demand.table {
+        return Checked::Fault(Refusal::new(11, 0));
+    }
+    if k <= question.supply.table {
+        return Checked::Fault(Refusal::new(11, 0));
+    }
+    let demand = entry_at(file, question.demand.table);
+    let supply = entry_at(file, question.supply.table);
+    if demand.kind != Entry::DEMAND {
+        return Checked::Fault(Refusal::new(12, 0));
+    }
+    if supply.kind != Entry::SUPPLY {
+        return Checked::Fault(Refusal::new(12, 0));
+    }
+    if (demand.states as usize) <= question.demand.state {
+        return Checked::Fault(Refusal::new(13, 0));
+    }
+    if (supply.states as usize) <= question.supply.state {
+        return Checked::Fault(Refusal::new(13, 0));
+    }
+    Checked::Passed
+}
+
+// Counts the surviving moves of the pair, and writes them where there is room.
+pub(crate) fn write_moves(file: &[u8], question: Question, out: &mut [u16]) -> Counted
+    requires { ⌜ Asked (now file) question ⌝ }
+    ensures answer { λ r. ⌜ counted r ≡ movesAnswer (now (file .entry)) question (length (now (out .entry))) ⌝ }
+    ensures slice { λ r. ⌜ now (out .exit) ≡ movesSlice (now (file .entry)) question (now (out .entry)) ⌝ }
+{
+    let requests = entry_body(file, entry_at(file, question.demand.table));
+    let grants = entry_body(file, entry_at(file, question.supply.table));
+    let task = rows_of(requests, question.demand.state as u8);
+    let offers = rows_of(grants, question.supply.state as u8);
+    let count = moves::count(requests, task, grants, offers);
+    if out.len() / moves::ENTRIES < count {
+        return Counted::Refused(Refusal::new(14, 0));
+    }
+    moves::write(requests, task, grants, offers, out);
+    Counted::Count(count)
+}
