@@ -10,7 +10,8 @@ use native.Mathlib.Nat.{mul-one}
 use lib.Dec.{T, not-T, leb, leb→le, nleb→lt, ltb, ltb→lt, nltb→le}
 use lib.ListN.{length, getD, length-append, List·getD-append}
 use lib.Seq.{getD-append-add}
-use Rattle.rules.specs.Below.{listBelow, sumBelow, maxBelow, one}
+use lib.Arith.{digits-lt}
+use Rattle.rules.specs.Below.{listBelow, listsBelow, sumBelow, maxBelow, one}
 use Rattle.rules.specs.Machines.{Machine}
 use Rattle.rules.specs.Rounds.{countPairs}
 use Rattle.rules.proofs.Booleans.{T-or}
@@ -55,6 +56,24 @@ module _ {A : Type 0} (f : ℕ → A) where
     where
       further : (m : ℕ) → i ≤ m → (rest : List A) × (listBelow m f ≡ listBelow i f ++ rest) → (rest : List A) × (listBelow (suc m) f ≡ listBelow i f ++ rest)
       further m k (rest, e) = (rest ++ (f m ∷ []), ap (λ (z : List A). z ++ (f m ∷ [])) e ∙ append-assoc (listBelow i f) rest (f m ∷ []))
+
+-- lists of m, end to end: entry s of list t
+module _ (m : ℕ) (f : ℕ → ℕ → ℕ) where
+  pub length-lists : (n : ℕ) → length (listsBelow n (λ t. listBelow m (f t))) ≡ n * m
+  length-lists zero = omega arith
+  length-lists (suc n) = length-append (listsBelow n (λ t. listBelow m (f t))) (listBelow m (f n)) ∙ omega (arith, length-lists n, length-listBelow (f n) m)
+
+  pub getD-lists : (n t s : ℕ) → t < n → s < m → getD (listsBelow n (λ t. listBelow m (f t))) (t * m + s) 0 ≡ f t s
+  getD-lists zero t s l k = absurd (omega arith)
+  getD-lists (suc n) t s l k = go (lt-cases t n l) (λ h. getD-lists n t s h k)
+    where
+      go : (t < n) ⊎ (t ≡ n) → (t < n → getD (listsBelow n (λ t. listBelow m (f t))) (t * m + s) 0 ≡ f t s)
+          → getD (listsBelow n (λ t. listBelow m (f t)) ++ listBelow m (f n)) (t * m + s) 0 ≡ f t s
+      go (inl h) more =
+          List·getD-append (listsBelow n (λ t. listBelow m (f t))) (listBelow m (f n)) 0 (t * m + s) (omega (arith, length-lists n, digits-lt h k)) ∙ more h
+      go (inr e) more =
+          at-seam (listsBelow n (λ t. listBelow m (f t))) (listBelow m (f n)) 0 (t * m + s) s (ap (λ (x : ℕ). x * m + s) e ∙ omega (arith, length-lists n))
+          ∙ getD-listBelow (f n) 0 m s k ∙ ap (λ (x : ℕ). f x s) (sym e)
 
 -- ---- sums and largest values
 

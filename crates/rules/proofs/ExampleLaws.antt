@@ -1,9 +1,9 @@
 -- The worked examples of document 01 hold, by computation from the rules. Relies on nothing.
-use Prim.Native.Nat.{ℕ}
+use Prim.Native.Nat.{ℕ, _<_}
 use mathlib.Core.Path.{_≡_, refl, ap₂}
 use mathlib.Core.Bool.{Bool, true, false, not, _&&_}
 use mathlib.Core.List.{List, [], _∷_, flatMap, List·Memᴰ}
-use lib.Dec.{T, T-not, eqb, eqb→eq}
+use lib.Dec.{T, T-not, eqb, eqb→eq, ltb, ltb→lt}
 use lib.ListN.{length}
 use Rattle.rules.specs.declared.Row.{Row}
 use Rattle.rules.specs.Lists.{all, isEmpty}
@@ -13,7 +13,7 @@ use Rattle.rules.specs.Machines.{Table, rowMoves, stateMoves, machine}
 use Rattle.rules.specs.Moves.{leftOf, consumedOf, unmetOf, candidates, fells, survivorsOf, survivors, numbers}
 use Rattle.rules.specs.Rounds.{answered, slotHolds, pairHolds, isPair, keeps, markBy, mark, marks}
 use Rattle.rules.specs.Join.{insertRow, inOrder, joinMoves, joinRows, join}
-use Rattle.rules.specs.Examples.{demandE, supplyE, finOnly, demandFifth, demandSixth, thenFin, once, atMostOnce, examples}
+use Rattle.rules.specs.Examples.{demandE, supplyE, finOnly, demandFifth, demandSixth, thenFin, once, atMostOnce, repeated, twoSlots, examples}
 use Rattle.rules.specs.Examples.{Example, Means, movesAre, marksAre, saysYes, saysNo, joinIs, joinCount, isStuck}
 use Rattle.rules.proofs.Booleans.{eq-T, and-l, and-r}
 use Rattle.rules.proofs.ListLaws.{all-each}
@@ -65,28 +65,38 @@ sameNumbers = sameList eqb eqb→eq
 test : Example → Bool
 test (movesAre D S t s l) = sameNumbers (flatMap numbers (survivors (machine D) (machine S) t s)) l
 test (marksAre mode D S l) = sameNumbers (marks mode (machine D) (machine S)) l
-test (saysYes mode D S t s) = eqb (mark mode (machine D) (machine S) t s) 0
-test (saysNo mode D S t s) = not (eqb (mark mode (machine D) (machine S) t s) 0)
+test (saysYes mode D S t s) = ltb t (D .n) && (ltb s (S .n) && eqb (mark mode (machine D) (machine S) t s) 0)
+test (saysNo mode D S t s) = ltb t (D .n) && (ltb s (S .n) && not (eqb (mark mode (machine D) (machine S) t s) 0))
 test (joinIs A B J) = sameTable (join A B) J
 test (joinCount A B m) = eqb (length (join A B .rows)) m
-test (isStuck A q) = isEmpty (stateMoves (A .rows) q)
+test (isStuck A q) = ltb q (A .n) && isEmpty (stateMoves (A .rows) q)
 
 empty-list : {A : Type 0} (l : List A) → T (isEmpty l) → l ≡ []
 empty-list [] t = refl
 empty-list (x ∷ xs) t = absurd t
 
+-- two states, and a test that tells a fact about them
+states : {P : Type 0} (t s n m : ℕ) (b : Bool) → (T b → P) → T (ltb t n && (ltb s m && b)) → (t < n) × (s < m) × P
+states t s n m b f h =
+    let rest : T (ltb s m && b) = and-r (ltb t n) (ltb s m && b) h in
+    (ltb→lt t n (and-l (ltb t n) (ltb s m && b) h), ltb→lt s m (and-l (ltb s m) b rest), f (and-r (ltb s m) b rest))
+
 tested : (e : Example) → T (test e) → Means e
 unfolding test Means sameNumbers
 tested (movesAre D S t s l) h = equal-list eqb eqb→eq (flatMap numbers (survivors (machine D) (machine S) t s)) l h
 tested (marksAre mode D S l) h = equal-list eqb eqb→eq (marks mode (machine D) (machine S)) l h
-tested (saysYes mode D S t s) h = eqb→eq (mark mode (machine D) (machine S) t s) 0 h
-tested (saysNo mode D S t s) h = λ e. T-not (eqb (mark mode (machine D) (machine S) t s) 0) h (eq-T (mark mode (machine D) (machine S) t s) 0 e)
+tested (saysYes mode D S t s) h = states t s (D .n) (S .n) (eqb (mark mode (machine D) (machine S) t s) 0) (eqb→eq (mark mode (machine D) (machine S) t s) 0) h
+tested (saysNo mode D S t s) h =
+    states t s (D .n) (S .n) (not (eqb (mark mode (machine D) (machine S) t s) 0))
+    (λ h e. T-not (eqb (mark mode (machine D) (machine S) t s) 0) h (eq-T (mark mode (machine D) (machine S) t s) 0 e)) h
 tested (joinIs A B J) h = equal-table (join A B) J h
 tested (joinCount A B m) h = eqb→eq (length (join A B .rows)) m h
-tested (isStuck A q) h = empty-list (stateMoves (A .rows) q) h
+tested (isStuck A q) h =
+    let empty : Bool = isEmpty (stateMoves (A .rows) q) in
+    (ltb→lt q (A .n) (and-l (ltb q (A .n)) empty h), empty-list (stateMoves (A .rows) q) (and-r (ltb q (A .n)) empty h))
 
 passed : T (all test examples)
-unfolding examples test sameNumbers sameList sameTable sameRow flatMap demandE supplyE finOnly demandFifth demandSixth thenFin once atMostOnce intersection union difference inside larger maximal rises rowMoves stateMoves leftOf consumedOf unmetOf candidates fells survivorsOf numbers answered slotHolds pairHolds isPair keeps markBy mark marks insertRow inOrder joinMoves joinRows join
+unfolding examples test sameNumbers sameList sameTable sameRow flatMap demandE supplyE finOnly demandFifth demandSixth thenFin once atMostOnce repeated twoSlots intersection union difference inside larger maximal rises rowMoves stateMoves leftOf consumedOf unmetOf candidates fells survivorsOf numbers answered slotHolds pairHolds isPair keeps markBy mark marks insertRow inOrder joinMoves joinRows join
 passed = tt
 
 -- every example of the table holds

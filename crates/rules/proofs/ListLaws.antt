@@ -181,6 +181,11 @@ module _ {A : Type 0} (R : A → A → Type 0) where
   pairwise-keepIf p [] h = h
   pairwise-keepIf p (x ∷ xs) h = pairwise-consIf (p x) x (keepIf p xs) (λ y m. h .0 y (mem-keepIf p xs m .0)) (pairwise-keepIf p xs (h .1))
 
+module _ {A : Type 0} (Q R : A → A → Type 0) (f : (x y : A) → Q x y → R x y) where
+  pub pairwise-weaken : (l : List A) → Pairwise Q l → Pairwise R l
+  pairwise-weaken [] p = tt
+  pairwise-weaken (x ∷ xs) p = (λ y m. f x y (p .0 y m), pairwise-weaken xs (p .1))
+
 module _ {A B : Type 0} (Q : A → A → Type 0) (R : B → B → Type 0) where
   pub pairwise-map : (f : A → B) (l : List A) → ((x y : A) → Q x y → R (f x) (f y)) → Pairwise Q l → Pairwise R (map f l)
   pairwise-map f [] h p = tt

@@ -43,6 +43,6 @@ unfoldable pub larger : ℕ → ℕ → Bool
 larger a b = inside b a && not (eqb a b)
 
 -- 01, 'Moves': a response to G "is maximal if no other response to G has a strictly larger set". Here B is inside G, and none of the
--- sets that is inside G is strictly larger. B is meant to be one of the sets.
+-- sets that are inside G is strictly larger. B is meant to be one of the sets.
 unfoldable pub maximal : List ℕ → ℕ → ℕ → Bool
 maximal sets G B = inside B G && not (any (λ C. inside C G && larger C B) sets)
