@@ -1,14 +1,20 @@
--- Laws of Moves of a pair: the answer and the slice, by what the checks find. Relies on nothing.
+-- Laws of Moves of a pair: the answer and the slice, by what the checks find; and the moves written are those of PADS. Relies on nothing.
 use Prim.Native.Nat.{ℕ, _*_, _/_, _≤_, _<_}
 use mathlib.Core.Path.{_≡_, refl, sym, ap, ap₂, _∙_}
-use mathlib.Core.List.{List, [], _∷_, flatMap}
+use mathlib.Core.List.{List, [], _∷_, map, flatMap, List·Memᴰ, Memᴰ·cast}
+use mathlib.Core.Logic.{_↔_}
 use native.Mathlib.Omega.{arith}
-use lib.ListN.{length, take, drop}
+use lib.ListN.{length, getD, take, drop}
 use borrow.Author.Tests.{lt-ltb, le-ltb}
 use Rattle.rules.specs.declared.Move.{Move}
 use Rattle.rules.specs.Machines.{stateMoves}
 use Rattle.rules.specs.Slices.{writeAt, overwrite}
-use Rattle.rules.specs.Moves.{Candidate, survivorsOf, numbers}
+use Rattle.rules.specs.Lists.{Pairwise}
+use Rattle.rules.specs.Actions.{Action, beside}
+use Rattle.rules.specs.Moves.{Candidate, action, leftOf, consumedOf, unmetOf, survivorsOf, numbers}
+use Rattle.rules.proofs.ListLaws.{map-mem, mem-map}
+use Rattle.rules.proofs.MoveLaws.{Precedes, table-survivors}
+use Rattle.rules.proofs.ActionLaws.{beside-survivors}
 use Rattle.rules.proofs.SliceLaws.{writeAt-overwrite}
 use Rattle.tables.specs.declared.reads.Entry.{Entry}
 use Rattle.tables.specs.declared.Refusal.{Refusal}
@@ -16,10 +22,10 @@ use Rattle.tables.specs.declared.Checked.the-variants.{Passed, Fault}
 use Rattle.tables.specs.Checks.{refuse, fault, _then_}
 use Rattle.tables.specs.Answers.{Answer, turnedBack, carriedOut}
 use Rattle.tables.specs.File.{entryOf, bodyLength}
-use Rattle.tables.specs.Tables.{rowsOf}
+use Rattle.tables.specs.Tables.{rowsOf, tableOf}
 use Rattle.moves.proofs.PairLaws.{numbers-length}
 use Rattle.checker.specs.declared.Question.{Question}
-use Rattle.checker.specs.Pairs.{pairChecks, Asked, survivorsAt}
+use Rattle.checker.specs.Pairs.{pairChecks, Asked, demandOf, supplyOf, survivorsAt}
 use Rattle.checker.specs.Moves.{movesChecks, movesAnswer, movesSlice}
 use Rattle.checker.proofs.PairLaws.{asked-checks, asked-demand, asked-supply, state-moves}
 
@@ -67,3 +73,34 @@ survivors-found s q a d e b part u f g piece ts ss p r =
     ap₂ survivorsOf
     (state-moves s (q .demand .table) (q .demand .state) (asked-demand s q a) d e b part ts p)
     (state-moves s (q .supply .table) (q .supply .state) (asked-supply s q a) u f g piece ss r)
+
+-- ---- the moves written are those of PADS
+
+-- the five numbers of a transition by the action a to the pair (u, v)
+abbrev pub five : Action → ℕ → ℕ → List ℕ
+five a u v = a .grants ∷ a .consumptions ∷ a .requests ∷ u ∷ v ∷ []
+
+-- a list of five numbers tells each of them
+five-eq : (a b : Action) (u v x y : ℕ) → five a u v ≡ five b x y → (a ≡ b) × (u ≡ x) × (v ≡ y)
+five-eq a b u v x y e =
+    let at : ℕ → List ℕ → ℕ = λ i l. getD l i 0 in
+    (λ i. record { requests = ap (at 2) e i; grants = ap (at 0) e i; consumptions = ap (at 1) e i }, ap (at 3) e, ap (at 4) e)
+
+-- the task beside the supply has a transition after preemption exactly if its five numbers are among those of the surviving moves
+pub moves-are-steps : (s : List ℕ) (q : Question) (a : Action) (u v : ℕ)
+    → beside (demandOf s q) (supplyOf s q) .Step (q .demand .state, q .supply .state) a (u, v) ↔ List·Memᴰ (five a u v) (map numbers (survivorsAt s q))
+unfolding numbers
+moves-are-steps s q a u v = (
+  λ w. let (c, m, ea, eu, ev) = step .0 w in Memᴰ·cast (λ i. five (ea i) (eu i) (ev i)) (map-mem numbers m),
+  λ m. let (c, k, e) = mem-map numbers (survivorsAt s q) m in
+      let (ea, eu, ev) = five-eq a (action c) u v (c .task .target) (c .supply .target) e in
+      step .1 (c, k, ea, eu, ev),
+)
+  where
+    step : beside (demandOf s q) (supplyOf s q) .Step (q .demand .state, q .supply .state) a (u, v)
+        ↔ ((c : Candidate) × List·Memᴰ c (survivorsAt s q) × (a ≡ action c) × (u ≡ c .task .target) × (v ≡ c .supply .target))
+    step = beside-survivors (demandOf s q) (supplyOf s q) (q .demand .state) (q .supply .state) u v a
+
+-- they rise by supply row, then task row, and each pair of moves is written once
+pub moves-rise-once : (s : List ℕ) (q : Question) → Pairwise Precedes (survivorsAt s q) × Pairwise (λ c d. c ≡ d → ⊥) (survivorsAt s q)
+moves-rise-once s q = table-survivors (tableOf s (q .demand .table)) (tableOf s (q .supply .table)) (q .demand .state) (q .supply .state)
