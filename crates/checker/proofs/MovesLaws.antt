@@ -1,4 +1,5 @@
--- Laws of Moves of a pair: the answer and the slice, by what the checks find; and the moves written are those of PADS. Relies on nothing.
+-- Laws of Moves of a pair: the answer and the slice, by what the checks find; and the moves written are those of PADS. Relies on
+-- the laws of actions and of questions about a pair.
 use Prim.Native.Nat.{ℕ, _*_, _/_, _≤_, _<_}
 use mathlib.Core.Path.{_≡_, refl, sym, ap, ap₂, _∙_}
 use mathlib.Core.List.{List, [], _∷_, map, flatMap, List·Memᴰ, Memᴰ·cast}
@@ -11,9 +12,9 @@ use Rattle.rules.specs.Machines.{stateMoves}
 use Rattle.rules.specs.Slices.{writeAt, overwrite}
 use Rattle.rules.specs.Lists.{Pairwise}
 use Rattle.rules.specs.Actions.{Action, beside}
-use Rattle.rules.specs.Moves.{Candidate, action, leftOf, consumedOf, unmetOf, survivorsOf, numbers}
+use Rattle.rules.specs.Moves.{Candidate, Precedes, action, leftOf, consumedOf, unmetOf, survivorsOf, numbers}
 use Rattle.rules.proofs.ListLaws.{map-mem, mem-map}
-use Rattle.rules.proofs.MoveLaws.{Precedes, table-survivors}
+use Rattle.rules.proofs.MoveLaws.{table-survivors}
 use Rattle.rules.proofs.ActionLaws.{beside-survivors}
 use Rattle.rules.proofs.SliceLaws.{writeAt-overwrite}
 use Rattle.tables.specs.declared.reads.Entry.{Entry}
@@ -25,8 +26,8 @@ use Rattle.tables.specs.File.{entryOf, bodyLength}
 use Rattle.tables.specs.Tables.{rowsOf, tableOf}
 use Rattle.moves.proofs.PairLaws.{numbers-length}
 use Rattle.checker.specs.declared.Question.{Question}
-use Rattle.checker.specs.Pairs.{pairChecks, Asked, demandOf, supplyOf, survivorsAt}
-use Rattle.checker.specs.Moves.{movesChecks, movesAnswer, movesSlice}
+use Rattle.checker.specs.Pairs.{pairChecks, PairAccepted, demandOf, supplyOf, survivorsAt}
+use Rattle.checker.specs.Moves.{movesChecks, movesAnswer, movesSlice, stepNumbers}
 use Rattle.checker.proofs.PairLaws.{asked-checks, asked-demand, asked-supply, state-moves}
 
 module _ (s : List ℕ) (q : Question) where
@@ -41,7 +42,7 @@ module _ (s : List ℕ) (q : Question) where
   unfolding movesAnswer movesSlice
   turned-back r entry e = (rw e refl, rw e refl)
 
-  module _ (a : Asked s q) (cs : List Candidate) (same : cs ≡ survivorsAt s q) (count : ℕ) (counted : count ≡ length cs) where
+  module _ (a : PairAccepted s q) (cs : List Candidate) (same : cs ≡ survivorsAt s q) (count : ℕ) (counted : count ≡ length cs) where
     -- by 14: 5 × count do not fit into room
     pub short-fault : (room : ℕ) → room / 5 < count → movesChecks s q room ≡ Fault (refuse 14 0)
     unfolding movesChecks _then_ fault
@@ -64,7 +65,7 @@ module _ (s : List ℕ) (q : Question) where
         (rw (none-fault (length entry) l, counted, same) refl, rw (none-fault (length entry) l, ← same) (w ∙ writeAt-overwrite (flatMap numbers cs) entry room))
 
 -- the survivors of the moves that the two bodies give are those of the pair
-pub survivors-found : (s : List ℕ) (q : Question) → Asked s q
+pub survivors-found : (s : List ℕ) (q : Question) → PairAccepted s q
     → (d : Entry) → d ≡ entryOf s (q .demand .table) → (b : List ℕ) → b ≡ take (bodyLength d) (drop (d .offset) s)
     → (u : Entry) → u ≡ entryOf s (q .supply .table) → (g : List ℕ) → g ≡ take (bodyLength u) (drop (u .offset) s)
     → (ts ss : List Move) → ts ≡ stateMoves (rowsOf b (length b / 4)) (q .demand .state) → ss ≡ stateMoves (rowsOf g (length g / 4)) (q .supply .state)
@@ -76,24 +77,20 @@ survivors-found s q a d e b part u f g piece ts ss p r =
 
 -- ---- the moves written are those of PADS
 
--- the five numbers of a transition by the action a to the pair (u, v)
-abbrev pub five : Action → ℕ → ℕ → List ℕ
-five a u v = a .grants ∷ a .consumptions ∷ a .requests ∷ u ∷ v ∷ []
-
 -- a list of five numbers tells each of them
-five-eq : (a b : Action) (u v x y : ℕ) → five a u v ≡ five b x y → (a ≡ b) × (u ≡ x) × (v ≡ y)
-five-eq a b u v x y e =
+step-numbers-eq : (a b : Action) (u v x y : ℕ) → stepNumbers a u v ≡ stepNumbers b x y → (a ≡ b) × (u ≡ x) × (v ≡ y)
+step-numbers-eq a b u v x y e =
     let at : ℕ → List ℕ → ℕ = λ i l. getD l i 0 in
     (λ i. record { requests = ap (at 2) e i; grants = ap (at 0) e i; consumptions = ap (at 1) e i }, ap (at 3) e, ap (at 4) e)
 
 -- the task beside the supply has a transition after preemption exactly if its five numbers are among those of the surviving moves
 pub moves-are-steps : (s : List ℕ) (q : Question) (a : Action) (u v : ℕ)
-    → beside (demandOf s q) (supplyOf s q) .Step (q .demand .state, q .supply .state) a (u, v) ↔ List·Memᴰ (five a u v) (map numbers (survivorsAt s q))
+    → beside (demandOf s q) (supplyOf s q) .Step (q .demand .state, q .supply .state) a (u, v) ↔ List·Memᴰ (stepNumbers a u v) (map numbers (survivorsAt s q))
 unfolding numbers
 moves-are-steps s q a u v = (
-  λ w. let (c, m, ea, eu, ev) = step .0 w in Memᴰ·cast (λ i. five (ea i) (eu i) (ev i)) (map-mem numbers m),
+  λ w. let (c, m, ea, eu, ev) = step .0 w in Memᴰ·cast (λ i. stepNumbers (ea i) (eu i) (ev i)) (map-mem numbers m),
   λ m. let (c, k, e) = mem-map numbers (survivorsAt s q) m in
-      let (ea, eu, ev) = five-eq a (action c) u v (c .task .target) (c .supply .target) e in
+      let (ea, eu, ev) = step-numbers-eq a (action c) u v (c .task .target) (c .supply .target) e in
       step .1 (c, k, ea, eu, ev),
 )
   where

@@ -25,7 +25,7 @@ use Rattle.tables.proofs.AcceptedLaws.{tables-passed, refused-fault, passed-acc
 use Rattle.moves.specs.States.{Sorted}
 use Rattle.moves.proofs.StateLaws.{body-sorted}
 use Rattle.checker.specs.declared.Question.{Question}
-use Rattle.checker.specs.Pairs.{pairFault, pairChecks, Asked}
+use Rattle.checker.specs.Pairs.{pairFault, pairChecks, PairAccepted}
 
 -- ---- what the checks find
 
@@ -38,12 +38,12 @@ module _ (s : List ℕ) (q : Question) (o : Opened) (e : opened o ≡ openOf s) 
   unfolding pairChecks _then_
   pair-fault k c r p f g = let t = tables-passed s k (rw p at e) in rw (t .0, t .1) (sym f ∙ g)
 
-  pub pair-asked : (k : ℕ) (c : Checked) → o ≡ Tables k → c ≡ pairFault s k q → c ≡ Passed → Asked s q
+  pub pair-asked : (k : ℕ) (c : Checked) → o ≡ Tables k → c ≡ pairFault s k q → c ≡ Passed → PairAccepted s q
   pair-asked k c p f g =
       let t = tables-passed s k (rw p at e) in
       record { file = t .0; pair = ap (λ (x : ℕ). pairFault s x q) (t .1) ∙ sym f ∙ g }
 
-pub asked-checks : (s : List ℕ) (q : Question) → Asked s q → pairChecks s q ≡ Passed
+pub asked-checks : (s : List ℕ) (q : Question) → PairAccepted s q → pairChecks s q ≡ Passed
 unfolding pairChecks _then_
 asked-checks s q a = rw (a .file) (a .pair)
 
@@ -60,7 +60,7 @@ table-at s i q p l h =
     let a : Accepted s (tablesOf s) = passed-accepted s p in
     record { within = accepted-laid s (tablesOf s) a .within i l; table = a .table i l; state = h }
 
-module _ (s : List ℕ) (q : Question) (a : Asked s q) where
+module _ (s : List ℕ) (q : Question) (a : PairAccepted s q) where
   -- the six checks, and how each reads where it passes
   abbrev passes : (t : Bool) (n p : ℕ) (rest : Checked) → fault t n p then rest ≡ Passed → t ≡ false
   passes t n p rest e = fault-passed t n p (then-left (fault t n p) rest e)

@@ -1,13 +1,13 @@
 -- Questions about a pair of states of two tables. Document 01, 'Operations and what they turn back'.
-use Prim.Native.Nat.{ℕ, _<_}
+use Prim.Native.Nat.{ℕ}
 use mathlib.Core.Path.{_≡_}
-use mathlib.Core.Bool.{Bool, not}
+use mathlib.Core.Bool.{not}
 use mathlib.Core.List.{List}
 use lib.Dec.{leb, eqb}
 use Rattle.rules.specs.Machines.{Machine}
 use Rattle.rules.specs.Moves.{Candidate, survivors}
 use Rattle.tables.specs.declared.Checked.{Checked}
-use Rattle.tables.specs.declared.Checked.the-variants.{Passed, Fault}
+use Rattle.tables.specs.declared.Checked.the-variants.{Passed}
 use Rattle.tables.specs.Checks.{fault, _then_}
 use Rattle.tables.specs.File.{tablesOf, entryOf}
 use Rattle.tables.specs.Open.{fileFault}
@@ -29,7 +29,7 @@ unfoldable pub pairChecks : List ℕ → Question → Checked
 pairChecks s q = fileFault s then pairFault s (tablesOf s) q
 
 -- none of these numbers applies
-pub record Asked (s : List ℕ) (q : Question) : Type 0 where
+pub record PairAccepted (s : List ℕ) (q : Question) : Type 0 where
   pub file : fileFault s ≡ Passed
   pub pair : pairFault s (tablesOf s) q ≡ Passed
 

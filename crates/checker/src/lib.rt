@@ -1,5 +1,6 @@
-// The calls as document 01 lists them. Each opens the file, turns back what must be turned back, and calls one engine.
-// Nothing is asked of the caller. Relies on `tables` for the file and on `moves` for the surviving moves of a pair.
+// The calls about a pair of states, as document 01 lists them. Each opens the file, turns back what must be turned back, and has one crate
+// below work out the answer. Nothing is asked of the caller. Relies on `rules` for the meaning, on `tables` for the file and on `moves` for
+// the surviving moves of a pair.
 ghost use mathlib.Core.Path.{_≡_};
 ghost use lib.ListN.{length};
 ghost use Rattle.checker.specs.Answers.{counted};

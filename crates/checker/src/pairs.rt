@@ -1,9 +1,8 @@
 // Questions about a pair of states: what turns them back after opening, and their answers where nothing does.
 ghost use mathlib.Core.Path.{_≡_};
 ghost use lib.ListN.{length};
-ghost use Rattle.tables.specs.File.{tablesOf};
 ghost use Rattle.checker.specs.Answers.{counted};
-ghost use Rattle.checker.specs.Pairs.{pairFault, Asked};
+ghost use Rattle.checker.specs.Pairs.{pairFault, PairAccepted};
 ghost use Rattle.checker.specs.Moves.{movesAnswer, movesSlice};
 use crate::Counted;
 use crate::Question;
@@ -43,7 +42,7 @@ pub(crate) fn check_pair(file: &[u8], k: usize, question: Question) -> Checked
 
 // Counts the surviving moves of the pair, and writes them where there is room.
 pub(crate) fn write_moves(file: &[u8], question: Question, out: &mut [u16]) -> Counted
-    requires { ⌜ Asked (now file) question ⌝ }
+    requires { ⌜ PairAccepted (now file) question ⌝ }
     ensures answer { λ r. ⌜ counted r ≡ movesAnswer (now (file .entry)) question (length (now (out .entry))) ⌝ }
     ensures slice { λ r. ⌜ now (out .exit) ≡ movesSlice (now (file .entry)) question (now (out .entry)) ⌝ }
 {
@@ -52,7 +51,7 @@ pub(crate) fn write_moves(file: &[u8], question: Question, out: &mut [u16]) -> C
     let task = rows_of(requests, question.demand.state as u8);
     let offers = rows_of(grants, question.supply.state as u8);
     let count = moves::count(requests, task, grants, offers);
-    if out.len() / moves::ENTRIES < count {
+    if out.len() / moves::ENTRIES_PER_MOVE < count {
         return Counted::Refused(Refusal::new(14, 0));
     }
     moves::write(requests, task, grants, offers, out);

@@ -1,5 +1,6 @@
 // Runs Moves of a pair on document 01's file E and on tables drawn for the edges, and writes every answer, the entries written, and how many
-// of the 64 entries of the array are unchanged. The file `stdout` beside this folder has the answers that are due. Relies on `checker`.
+// of the other entries of an array of 64 are unchanged. The file `stdout` beside this folder has the answers that are due. Relies on
+// `checker`.
 use checker::Counted;
 use checker::Question;
 use checker::Side;
@@ -9,9 +10,10 @@ const EXAMPLE: [u8; 38] =
     *b"\x02\x00\x01\x04\x04\x00\x0E\x00\x02\x03\x02\x00\x1E\x00\x01\x02\x01\x00\x01\x03\x02\x00\x02\x00\x01\x00\x03\x00\x02\x00\x01\x02\x03\x00\x02\x00\x01\x00";
 
 // Tables 0 and 1: FIN only, demand and supply. 2 and 3: the demands of document 01's fifth and sixth examples. 4 and 5: supplies of {0} and
-// of nothing, then FIN. 6: a demand with many choices, state 2 stuck. 7: a supply with equal grants to two targets, state 3 stuck.
-const DRAWN: [u8; 134] =
-    *b"\x08\x00\x01\x01\x00\x00\x32\x00\x02\x01\x00\x00\x32\x00\x01\x03\x03\x00\x32\x00\x01\x03\x03\x00\x3E\x00\x02\x02\x01\x00\x4A\x00\x02\x02\x01\x00\x4E\x00\x01\x04\x08\x00\x52\x00\x02\x04\x05\x00\x72\x00\x01\x02\x00\x00\x01\x00\x01\x00\x02\x00\x01\x00\x01\x00\x00\x00\x01\x02\x01\x00\x02\x00\x01\x00\x01\x00\x01\x00\x01\x00\x00\x00\x01\x00\x01\x00\x01\x01\x06\x00\x01\x02\x06\x00\x01\x00\x07\x00\x01\x03\x08\x00\x03\x00\x00\x00\x03\x01\x01\x00\x03\x02\x06\x00\x01\x00\x07\x00\x01\x02\x07\x00\x01\x01\x0F\x00\x02\x00\x06\x00\x02\x03\x08\x00";
+// of nothing, then FIN. 6: a demand with many choices, state 2 stuck. 7: a supply with equal grants to two targets, state 3 stuck. 8: requests
+// that 9, a supply of {0, 15}, meets in part.
+const DRAWN: [u8; 158] =
+    *b"\x0A\x00\x01\x01\x00\x00\x3E\x00\x02\x01\x00\x00\x3E\x00\x01\x03\x03\x00\x3E\x00\x01\x03\x03\x00\x4A\x00\x02\x02\x01\x00\x56\x00\x02\x02\x01\x00\x5A\x00\x01\x04\x08\x00\x5E\x00\x02\x04\x05\x00\x7E\x00\x01\x02\x02\x00\x92\x00\x02\x02\x01\x00\x9A\x00\x01\x02\x00\x00\x01\x00\x01\x00\x02\x00\x01\x00\x01\x00\x00\x00\x01\x02\x01\x00\x02\x00\x01\x00\x01\x00\x01\x00\x01\x00\x00\x00\x01\x00\x01\x00\x01\x01\x06\x00\x01\x02\x06\x00\x01\x00\x07\x00\x01\x03\x08\x00\x03\x00\x00\x00\x03\x01\x01\x00\x03\x02\x06\x00\x01\x00\x07\x00\x01\x02\x07\x00\x01\x01\x0F\x00\x02\x00\x06\x00\x02\x03\x08\x00\x01\x00\x02\x00\x01\x01\x03\x00\x01\x00\x01\x80";
 
 const ENTRIES: usize = 64;
 
@@ -155,7 +157,7 @@ fn rooms() {
     example(38, 0, 1, 0, 0, 0);
 }
 
-// Each number, and the first of several.
+// Open's 1 and 7 handed on, each of 11, 12 and 13, and the first of several.
 fn refusals() {
     example(37, 0, 1, 1, 1, 64);
     example(1, 9, 9, 9, 9, 0);
@@ -178,12 +180,13 @@ fn refusals() {
     example(38, 0, 1, 18446744073709551615, 1, 64);
     example(38, 0, 1, 1, 18446744073709551615, 64);
     example(38, 0, 1, 256, 1, 64);
+    example(38, 0, 1, 1, 256, 64);
     example(38, 0, 1, 4, 3, 0);
-    example(38, 0, 1, 3, 2, 64);
+    example(38, 0, 0, 9, 9, 0);
     example(38, 1, 0, 1, 1, 64);
 }
 
-// FIN on either side, the fifth and sixth examples, many choices, equal grants and stuck states.
+// FIN on either side, the fifth and sixth examples, many choices, equal grants, stuck states, requests that are partly met.
 fn edges() {
     drawn(0, 1, 0, 0, 5);
     drawn(0, 1, 0, 0, 4);
@@ -204,8 +207,11 @@ fn edges() {
     drawn(6, 7, 0, 1, 64);
     drawn(6, 7, 1, 0, 64);
     drawn(6, 1, 1, 0, 64);
+    drawn(8, 9, 1, 1, 64);
+    drawn(8, 9, 1, 0, 64);
+    drawn(8, 9, 0, 1, 64);
     drawn(7, 6, 1, 1, 64);
-    drawn(8, 7, 1, 1, 64);
+    drawn(10, 7, 1, 1, 64);
 }
 
 pub fn main() {

@@ -51,7 +51,7 @@ fn first_row(body: &[u8], state: u16) -> u16
     rows
 }
 
-// The rows of a state; FIN has its idle row alone.
+// The rows of a state; FIN has its idle row alone. Where a state has no rows, any start is meant.
 pub fn rows_of(body: &[u8], state: u8) -> Rows
     requires { ⌜ Sorted (now body) ⌝ }
     ensures { λ r. ⌜ movesOf (now (body .entry)) r ≡ stateMoves (rowsOf (now (body .entry)) (length (now (body .entry)) / 4)) state ⌝ }

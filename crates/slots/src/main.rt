@@ -1,5 +1,5 @@
 // The program: opens the file on standard input, and prints how many tables it has, or the number and place that turn it back.
-// Relies on `tables`. What it prints is held to the file `stdout` beside this folder, for the file `stdin`.
+// Relies on `tables` and `rules`. What it prints is held to the file `stdout` beside this folder, for the file `stdin`.
 use rules::Limits;
 use tables::Opened;
 

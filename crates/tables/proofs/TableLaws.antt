@@ -1,4 +1,5 @@
--- Laws of the tables of an accepted file: their machines are sound, and their rows rise by from-state. Relies on nothing.
+-- Laws of the tables of an accepted file: their machines are sound, and their rows rise by from-state. Relies on what
+-- Open guarantees.
 use Prim.Native.Nat.{ℕ, _+_, _*_, _/_, _≤_, _<_}
 use mathlib.Core.Path.{_≡_, refl, sym, ap, _∙_, subst}
 use mathlib.Core.Bool.{Bool, true}

@@ -1,4 +1,4 @@
--- The tables of a file, and the machines that they are to the rules.
+-- The tables of a file, and the machines that they define.
 use Prim.Native.Nat.{ℕ}
 use mathlib.Core.List.{List}
 use Rattle.rules.specs.declared.Row.{Row}

@@ -1,5 +1,5 @@
 // Runs Open, Body and the readers on document 01's file E and on the edges of each number, and writes every answer, and the constants.
-// The file `stdout` beside this folder has the answers that are due. Relies on `tables`.
+// The file `stdout` beside this folder has the answers that are due. Relies on `tables` and `rules`.
 ghost use Prim.Native.Nat.{_<_};
 use rules::Limits;
 use rules::Row;
