@@ -1,10 +1,10 @@
 // The moves of a state of a table: where its rows lie in the body, and the move that each gives.
 ghost use mathlib.Core.Path.{_≡_};
-ghost use Prim.Native.Nat.{_/_};
+ghost use Prim.Native.Nat.{_/_, _≤_};
 ghost use lib.ListN.{length};
 ghost use Rattle.rules.specs.Machines.{stateMoves};
 ghost use Rattle.tables.specs.Tables.{rowsOf};
-ghost use Rattle.moves.specs.States.{Sorted, FirstRow, rowRange, moveAt, movesOf};
+ghost use Rattle.moves.specs.States.{Sorted, FirstRow, Starts, StateIndexed, stateRows, rowRange, moveAt, movesOf};
 use rules::Move;
 use rules::Row;
 use tables::row_at;
@@ -61,5 +61,32 @@ pub fn rows_of(body: &[u8], state: u8) -> Rows
     }
     let start = first_row(body, state as u16);
     let end = first_row(body, state as u16 + 1);
+    Rows::new(start, end - start)
+}
+
+// An index of a body: at each entry the first row that leaves the state of that number or a higher one.
+pub fn write_starts(body: &[u8], starts: &mut [u16])
+    requires { ⌜ Sorted (now body) × (length (now starts) ≤ 65) ⌝ }
+    ensures { λ r. ⌜ (length (now (starts .exit)) ≡ length (now (starts .entry))) × Starts (now (body .entry)) (now (starts .exit)) ⌝ }
+{
+    let states = starts.len();
+    let mut q: usize = 0;
+    while q < states {
+        starts[q] = first_row(body, q as u16);
+        q += 1;
+    }
+}
+
+// The rows of a state, by the index of its body.
+pub fn rows_in(starts: &[u16], state: u8) -> Rows
+    requires { ⌜ StateIndexed (now starts) state ⌝ }
+    ensures { λ r. ⌜ r ≡ stateRows (now (starts .entry)) state ⌝ }
+{
+    if state == Row::FIN {
+        return Rows::new(Row::IDLE, 1);
+    }
+    let at = state as usize;
+    let start = starts[at];
+    let end = starts[at + 1];
     Rows::new(start, end - start)
 }

@@ -1,5 +1,5 @@
 -- Laws of lists, sums and largest values below a number, and of counts of pairs. Relies on nothing.
-use Prim.Native.Nat.{ℕ, zero, suc, _+_, _*_, _≤_, _<_, max}
+use Prim.Native.Nat.{ℕ, zero, suc, _+_, _-_, _*_, _≤_, _<_, max}
 use mathlib.Core.Path.{_≡_, refl, sym, ap, ap₂, _∙_, subst}
 use mathlib.Core.Bool.{Bool, true, false, not}
 use mathlib.Core.List.{List, [], _∷_, _++_, append-nil, append-assoc, List·Memᴰ, List·Memᴰ·head, Memᴰ·append-left, Memᴰ·append-right}
@@ -9,7 +9,7 @@ use native.Mathlib.Decide.{le-ind}
 use native.Mathlib.Nat.{mul-one}
 use lib.Dec.{T, not-T, leb, leb→le, nleb→lt, ltb, ltb→lt, nltb→le}
 use lib.ListN.{length, getD, length-append, List·getD-append}
-use lib.Seq.{getD-append-add}
+use lib.Seq.{getD-append-add, ext-getD}
 use lib.Arith.{digits-lt}
 use Rattle.rules.specs.Below.{listBelow, listsBelow, sumBelow, maxBelow, one}
 use Rattle.rules.specs.Machines.{Machine}
@@ -75,6 +75,26 @@ module _ (m : ℕ) (f : ℕ → ℕ → ℕ) where
           at-seam (listsBelow n (λ t. listBelow m (f t))) (listBelow m (f n)) 0 (t * m + s) s (ap (λ (x : ℕ). x * m + s) e ∙ omega (arith, length-lists n))
           ∙ getD-listBelow (f n) 0 m s k ∙ ap (λ (x : ℕ). f x s) (sym e)
 
+-- each entry of n lists of m, end to end, is an entry s of a list t
+pub entry-pair : (m n i : ℕ) → i < n * m → (t : ℕ) × (s : ℕ) × (t < n) × (s < m) × (i ≡ t * m + s)
+entry-pair m zero i l = absurd (omega arith)
+entry-pair m (suc n) i l = go (T-or (ltb i (n * m))) (entry-pair m n i)
+  where
+    go : T (ltb i (n * m)) ⊎ (T (ltb i (n * m)) → ⊥) → (i < n * m → (t : ℕ) × (s : ℕ) × (t < n) × (s < m) × (i ≡ t * m + s))
+        → (t : ℕ) × (s : ℕ) × (t < suc n) × (s < m) × (i ≡ t * m + s)
+    go (inl h) more = let (t, s, p, q, e) = more (ltb→lt i (n * m) h) in (t, s, omega arith, q, e)
+    go (inr h) more = let k = nltb→le i (n * m) (not-T (ltb i (n * m)) h) in (n, i - n * m, omega arith, omega arith, omega arith)
+
+-- a list with the right entries is those lists end to end
+pub lists-ext : (m n : ℕ) (f : ℕ → ℕ → ℕ) (l : List ℕ) → length l ≡ n * m → ((t s : ℕ) → t < n → s < m → getD l (t * m + s) 0 ≡ f t s)
+    → l ≡ listsBelow n (λ t. listBelow m (f t))
+lists-ext m n f l e h = ext-getD 0 l (listsBelow n (λ t. listBelow m (f t))) (e ∙ sym (length-lists m f n)) each
+  where
+    each : (i : ℕ) → i < length l → getD l i 0 ≡ getD (listsBelow n (λ t. listBelow m (f t))) i 0
+    each i k =
+        let (t, s, p, q, j) = entry-pair m n i (omega arith) in
+        ap (λ (x : ℕ). getD l x 0) j ∙ h t s p q ∙ sym (getD-lists m f n t s p q) ∙ ap (λ (x : ℕ). getD (listsBelow n (λ t. listBelow m (f t))) x 0) (sym j)
+
 -- ---- sums and largest values
 
 pub sum-mono : (n : ℕ) (f g : ℕ → ℕ) → ((i : ℕ) → i < n → f i ≤ g i) → sumBelow n f ≤ sumBelow n g
@@ -97,6 +117,17 @@ sum-add (suc n) f g = omega (arith, sum-add n f g)
 pub sum-cong : (n : ℕ) (f g : ℕ → ℕ) → ((i : ℕ) → i < n → f i ≡ g i) → sumBelow n f ≡ sumBelow n g
 sum-cong zero f g h = refl
 sum-cong (suc n) f g h = ap₂ (λ (a b : ℕ). a + b) (sum-cong n f g (λ i l. h i (omega arith))) (h n (omega arith))
+
+-- a sum over n lists of m, end to end, list by list
+sum-append : (a b : ℕ) (f : ℕ → ℕ) → sumBelow (a + b) f ≡ sumBelow a f + sumBelow b (λ i. f (a + i))
+sum-append a zero f = let e : a + 0 ≡ a = omega arith in rw e (omega arith)
+sum-append a (suc b) f = let e : a + suc b ≡ suc (a + b) = omega arith in rw e (omega (arith, sum-append a b f))
+
+pub sum-lists : (m n : ℕ) (f : ℕ → ℕ) → sumBelow (n * m) f ≡ sumBelow n (λ t. sumBelow m (λ s. f (t * m + s)))
+sum-lists m zero f = let e : 0 * m ≡ 0 = omega arith in rw e refl
+sum-lists m (suc n) f =
+    let e : suc n * m ≡ n * m + m = omega arith in
+    ap (λ (x : ℕ). sumBelow x f) e ∙ sum-append (n * m) m f ∙ ap (λ (x : ℕ). x + sumBelow m (λ s. f (n * m + s))) (sum-lists m n f)
 
 pub sum-const : (n c : ℕ) → sumBelow n (λ i. c) ≡ n * c
 sum-const zero c = omega arith

@@ -68,9 +68,21 @@ imp-e false b t s = absurd s
 
 -- ---- the same as equations
 
+pub and-none : (a : Bool) → (a && false) ≡ false
+and-none true = refl
+and-none false = refl
+
 pub or-assoc : (a b c : Bool) → ((a || b) || c) ≡ (a || (b || c))
 or-assoc true b c = refl
 or-assoc false b c = refl
+
+pub and-assoc : (a b c : Bool) → ((a && b) && c) ≡ (a && (b && c))
+and-assoc true b c = refl
+and-assoc false b c = refl
+
+pub and-all : (a : Bool) → (a && true) ≡ a
+and-all true = refl
+and-all false = refl
 
 pub or-none : (a : Bool) → (a || false) ≡ a
 or-none true = refl

@@ -6,7 +6,7 @@ use mathlib.Core.List.{List, [], _∷_, _++_, map, flatMap, append-assoc, List·
 use mathlib.Core.Logic.{_⊎_, inl, inr}
 use lib.Dec.{T}
 use Rattle.rules.specs.Lists.{any, all, isEmpty, consIf, keepIf, Pairwise}
-use Rattle.rules.proofs.Booleans.{T-or, and-i, and-l, and-r, or-l, or-r, or-cases, or-assoc}
+use Rattle.rules.proofs.Booleans.{T-or, and-i, and-l, and-r, or-l, or-r, or-cases, or-assoc, and-assoc}
 
 -- ---- tests
 
@@ -34,6 +34,10 @@ module _ {A : Type 0} (p : A → Bool) where
   pub any-append : (l r : List A) → any p (l ++ r) ≡ (any p l || any p r)
   any-append [] r = refl
   any-append (x ∷ xs) r = ap (λ (b : Bool). p x || b) (any-append xs r) ∙ sym (or-assoc (p x) (any p xs) (any p r))
+
+  pub all-append : (l r : List A) → all p (l ++ r) ≡ (all p l && all p r)
+  all-append [] r = refl
+  all-append (x ∷ xs) r = ap (λ (b : Bool). p x && b) (all-append xs r) ∙ sym (and-assoc (p x) (all p xs) (all p r))
 
 module _ {A : Type 0} where
   pub some-element : (l : List A) → T (not (isEmpty l)) → (x : A) × List·Memᴰ x l

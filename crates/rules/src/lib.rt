@@ -20,6 +20,12 @@ impl Limits {
     pub const BYTES: usize = 32866;
 }
 
+// What is asked of the maximal responses to a supply move: full, every one leads to a kept pair; partial, some one does.
+pub enum Mode {
+    Full,
+    Partial,
+}
+
 // A row of a table: in state `from`, the set is requested or granted, and the table goes to state `target`.
 pub struct Row {
     pub from: u8,
