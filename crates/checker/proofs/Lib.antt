@@ -1,2 +1,4 @@
 pub mod PairLaws
 pub mod MovesLaws
+pub mod DecideLaws
+pub mod DemandLaws

@@ -7,7 +7,8 @@ use native.Mathlib.Omega.{arith}
 use lib.ListN.{length, take, drop}
 use borrow.Author.Tests.{leb-false}
 use Rattle.rules.specs.declared.Move.{Move}
-use Rattle.rules.specs.Machines.{stateMoves}
+use Rattle.rules.specs.declared.Row.{Row}
+use Rattle.rules.specs.Machines.{Machine, Sound, stateMoves, machine}
 use Rattle.tables.specs.declared.reads.Entry.{Entry}
 use Rattle.tables.specs.declared.Refusal.{Refusal}
 use Rattle.tables.specs.declared.Checked.{Checked}
@@ -22,7 +23,8 @@ use Rattle.tables.specs.Accepted.{TableBody, Accepted, Laid}
 use Rattle.tables.specs.Tables.{rowsOf, machineOf}
 use Rattle.tables.proofs.CheckLaws.{fault-passed, then-left, then-right}
 use Rattle.tables.proofs.AcceptedLaws.{tables-passed, refused-fault, passed-accepted, accepted-laid}
-use Rattle.moves.specs.States.{Sorted}
+use Rattle.tables.proofs.TableLaws.{body-sound}
+use Rattle.moves.specs.States.{Sorted, machineIn}
 use Rattle.moves.proofs.StateLaws.{body-sorted}
 use Rattle.checker.specs.declared.Question.{Question}
 use Rattle.checker.specs.Pairs.{pairFault, pairChecks, PairAccepted}
@@ -43,6 +45,10 @@ module _ (s : List ℕ) (q : Question) (o : Opened) (e : opened o ≡ openOf s) 
       let t = tables-passed s k (rw p at e) in
       record { file = t .0; pair = ap (λ (x : ℕ). pairFault s x q) (t .1) ∙ sym f ∙ g }
 
+pub checks-asked : (s : List ℕ) (q : Question) → pairChecks s q ≡ Passed → PairAccepted s q
+unfolding pairChecks
+checks-asked s q e = record { file = then-left _ _ e; pair = then-right _ _ e }
+
 pub asked-checks : (s : List ℕ) (q : Question) → PairAccepted s q → pairChecks s q ≡ Passed
 unfolding pairChecks _then_
 asked-checks s q a = rw (a .file) (a .pair)
@@ -59,6 +65,9 @@ table-at : (s : List ℕ) (i q : ℕ) → fileFault s ≡ Passed → i < tablesO
 table-at s i q p l h =
     let a : Accepted s (tablesOf s) = passed-accepted s p in
     record { within = accepted-laid s (tablesOf s) a .within i l; table = a .table i l; state = h }
+
+pub table-at-sound : (s : List ℕ) (i q : ℕ) → TableAt s i q → Sound (machineOf s i)
+table-at-sound s i q t = body-sound (entryOf s i .states) (entryOf s i .rows) (bodyOf s i) (t .table)
 
 module _ (s : List ℕ) (q : Question) (a : PairAccepted s q) where
   -- the six checks, and how each reads where it passes
@@ -90,6 +99,9 @@ module _ (s : List ℕ) (i q : ℕ) (t : TableAt s i q) (e : Entry) (read : e �
   pub body-within : e .offset + bodyLength e ≤ length s
   body-within = subst (λ (x : Entry). x .offset + bodyLength x ≤ length s) (sym read) (t .within)
 
+  pub states-few : e .states ≤ 64
+  states-few = subst (λ (x : Entry). x .states ≤ 64) (sym read) (t .table .few-states)
+
   pub state-narrow : q < 256
   state-narrow = let h : q < entryOf s i .states = t .state in let few : entryOf s i .states ≤ 64 = t .table .few-states in omega arith
 
@@ -101,9 +113,16 @@ module _ (s : List ℕ) (i q : ℕ) (t : TableAt s i q) (e : Entry) (read : e �
     pub sorted-body : Sorted body
     sorted-body = subst Sorted (sym body-is) (body-sorted (entryOf s i .states) (entryOf s i .rows) (bodyOf s i) (t .table))
 
-    -- the moves of its rows are those of the table's machine
-    pub state-moves : (ms : List Move) → ms ≡ stateMoves (rowsOf body (length body / 4)) q → ms ≡ machineOf s i .moves q
-    state-moves ms h =
+    -- its machine is the table's
+    pub body-machine : machineIn (e .states) body ≡ machineOf s i
+    body-machine =
         let long : length body ≡ 4 * entryOf s i .rows = ap length body-is ∙ t .table .four-bytes in
         let count : length body / 4 ≡ entryOf s i .rows = omega arith in
-        h ∙ ap₂ (λ (b : List ℕ) (m : ℕ). stateMoves (rowsOf b m) q) body-is count
+        let states : e .states ≡ entryOf s i .states = ap (λ (x : Entry). x .states) read in
+        ap₂ (λ (n : ℕ) (r : List Row). machine (record { n = n; rows = r })) states (ap₂ rowsOf body-is count)
+
+    pub state-moves : (ms : List Move) → ms ≡ stateMoves (rowsOf body (length body / 4)) q → ms ≡ machineOf s i .moves q
+    state-moves ms h = h ∙ ap (λ (m : Machine). m .moves q) body-machine
+
+    pub machine-sound : Sound (machineIn (e .states) body)
+    machine-sound = subst Sound (sym body-machine) (table-at-sound s i q t)

@@ -1,16 +1,24 @@
 -- What the calls answer, in document 01's terms.
 use mathlib.Core.List.{List, [], _∷_}
 use Prim.Native.Nat.{ℕ}
+use Rattle.rules.specs.Below.{one}
 use Rattle.tables.specs.declared.Checked.{Checked}
 use Rattle.tables.specs.declared.Checked.the-variants.{Passed, Fault}
 use Rattle.tables.specs.Answers.{Answer, carriedOut, turnedBack}
 use Rattle.checker.specs.declared.Counted.{Counted}
-use Rattle.checker.specs.declared.Counted.the-variants.{Count, Refused}
+use Rattle.checker.specs.declared.Counted.the-variants as counts
+use Rattle.checker.specs.declared.Decided.{Decided}
+use Rattle.checker.specs.declared.Decided.the-variants as decisions
 
 -- the cases of `Counted`: "The count is returned"
 abbrev pub counted : Counted → Answer
-counted (Count n) = carriedOut (n ∷ [])
-counted (Refused r) = turnedBack r
+counted (counts.Count n) = carriedOut (n ∷ [])
+counted (counts.Refused r) = turnedBack r
+
+-- the cases of `Decided`: "yes if the start pair ... is marked 0, else no" as 1 and 0, "the count kept", "and rounds"
+abbrev pub decided : Decided → Answer
+decided (decisions.Answered v) = carriedOut (one (v .yes) ∷ v .kept ∷ v .rounds ∷ [])
+decided (decisions.Refused r) = turnedBack r
 
 -- what a lent slice holds at the end: "All lent buffers then hold what they held", where a call is turned back
 abbrev pub sliceAfter : Checked → List ℕ → List ℕ → List ℕ

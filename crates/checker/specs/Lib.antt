@@ -1,3 +1,5 @@
 pub mod Answers
 pub mod Pairs
 pub mod Moves
+pub mod Decide
+pub mod Demands

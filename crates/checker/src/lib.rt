@@ -1,10 +1,15 @@
 // The calls about a pair of states, as document 01 lists them. Each opens the file, turns back what must be turned back, and has one crate
-// below work out the answer. Nothing is asked of the caller. Relies on `rules` for the meaning, on `tables` for the file and on `moves` for
-// the surviving moves of a pair.
+// below work out the answer. Nothing is asked of the caller. Relies on `rules` for the meaning, on `tables` for the file, on `moves` for the
+// surviving moves of a pair and on `marks` for the marks of all pairs.
 ghost use mathlib.Core.Path.{_≡_};
 ghost use lib.ListN.{length};
-ghost use Rattle.checker.specs.Answers.{counted};
+ghost use Rattle.checker.specs.declared.Verdict.{Verdict};
+ghost use Rattle.checker.specs.declared.Decided.the-variants.{Answered};
+ghost use Rattle.checker.specs.Answers.{counted, decided};
+ghost use Rattle.checker.specs.Pairs.{demandOf, supplyOf};
 ghost use Rattle.checker.specs.Moves.{movesAnswer, movesSlice};
+ghost use Rattle.checker.specs.Decide.{modeOf, decideAnswer, decideSlice};
+ghost use Rattle.checker.specs.Demands.{SecondDemand, ThirdDemand};
 use tables::Checked;
 use tables::Opened;
 use tables::Refusal;
@@ -31,6 +36,19 @@ pub enum Counted {
     Refused(Refusal),
 }
 
+// What Decide finds: yes or no for the start pair, the count kept, and rounds.
+pub struct Verdict {
+    pub yes: bool,
+    pub kept: u16,
+    pub rounds: u16,
+}
+
+// What Decide answers: its verdict, or why it is turned back.
+pub enum Decided {
+    Answered(Verdict),
+    Refused(Refusal),
+}
+
 // Moves of a pair: left, consumed, unmet, demand target and supply target of each surviving move.
 pub fn moves(file: &[u8], question: Question, out: &mut [u16]) -> Counted
     ensures answer { λ r. ⌜ counted r ≡ movesAnswer (now (file .entry)) question (length (now (out .entry))) ⌝ }
@@ -44,4 +62,24 @@ pub fn moves(file: &[u8], question: Question, out: &mut [u16]) -> Counted
         return Counted::Refused(refusal);
     }
     pairs::write_moves(file, question, out)
+}
+
+// Decide: the marks of all pairs of states, by mode 0 (full) or 1 (partial), and what they say of the start pair.
+pub fn decide(file: &[u8], question: Question, mode: usize, marks: &mut [u16]) -> Decided
+    ensures answer { λ r. ⌜ decided r ≡ decideAnswer (now (file .entry)) question mode (length (now (marks .entry))) ⌝ }
+    ensures slice { λ r. ⌜ now (marks .exit) ≡ decideSlice (now (file .entry)) question mode (now (marks .entry)) ⌝ }
+    ensures second { λ r. ⌜ ((v : Verdict) → r ≡ Answered v → SecondDemand (modeOf mode) (demandOf (now (file .entry)) question) (supplyOf (now (file .entry)) question) (question .demand .state) (question .supply .state) v (now (marks .exit))) ⌝ }
+    ensures third { λ r. ⌜ ((v : Verdict) → r ≡ Answered v → ThirdDemand (modeOf mode) (demandOf (now (file .entry)) question) (supplyOf (now (file .entry)) question) (question .demand .state) (question .supply .state) v (now (marks .exit))) ⌝ }
+{
+    let found = open(file);
+    let Opened::Tables(k) = found else {
+        return Decided::Refused(refusal_of(found));
+    };
+    if let Checked::Fault(refusal) = pairs::check_pair(file, k, question) {
+        return Decided::Refused(refusal);
+    }
+    if 1 < mode {
+        return Decided::Refused(Refusal::new(15, 0));
+    }
+    pairs::write_marks(file, question, mode, marks)
 }

@@ -1,12 +1,18 @@
 // Questions about a pair of states: what turns them back after opening, and their answers where nothing does.
 ghost use mathlib.Core.Path.{_≡_};
 ghost use lib.ListN.{length};
-ghost use Rattle.checker.specs.Answers.{counted};
+ghost use Prim.Native.Nat.{_≤_};
+ghost use Rattle.checker.specs.Answers.{counted, decided};
 ghost use Rattle.checker.specs.Pairs.{pairFault, PairAccepted};
 ghost use Rattle.checker.specs.Moves.{movesAnswer, movesSlice};
+ghost use Rattle.checker.specs.Decide.{modeOf, decideAnswer, decideSlice};
 use crate::Counted;
+use crate::Decided;
 use crate::Question;
+use crate::Verdict;
+use marks::States;
 use moves::rows_of;
+use rules::Mode;
 use tables::Checked;
 use tables::Entry;
 use tables::Refusal;
@@ -56,4 +62,31 @@ pub(crate) fn write_moves(file: &[u8], question: Question, out: &mut [u16]) -> C
     }
     moves::write(requests, task, grants, offers, out);
     Counted::Count(count)
+}
+
+// The mode with a number: 0 full, 1 partial.
+fn mode_of(number: usize) -> Mode
+    ensures { λ r. ⌜ r ≡ modeOf number ⌝ }
+{
+    if number == 0 {
+        return Mode::Full;
+    }
+    Mode::Partial
+}
+
+// Writes the marks of all pairs of states where there is room, and reads the start pair's.
+pub(crate) fn write_marks(file: &[u8], question: Question, mode: usize, marks: &mut [u16]) -> Decided
+    requires { ⌜ PairAccepted (now file) question × (mode ≤ 1) ⌝ }
+    ensures answer { λ r. ⌜ decided r ≡ decideAnswer (now (file .entry)) question mode (length (now (marks .entry))) ⌝ }
+    ensures slice { λ r. ⌜ now (marks .exit) ≡ decideSlice (now (file .entry)) question mode (now (marks .entry)) ⌝ }
+{
+    let demand = entry_at(file, question.demand.table);
+    let supply = entry_at(file, question.supply.table);
+    if marks.len() < demand.states as usize * supply.states as usize {
+        return Decided::Refused(Refusal::new(14, 0));
+    }
+    let states = States { demand: demand.states, supply: supply.states };
+    let summary = marks::write(entry_body(file, demand), entry_body(file, supply), states, mode_of(mode), marks);
+    let start = question.demand.state * supply.states as usize + question.supply.state;
+    Decided::Answered(Verdict { yes: marks[start] == 0, kept: summary.kept, rounds: summary.rounds })
 }

@@ -161,6 +161,16 @@ pub max-le : (n : ℕ) (f : ℕ → ℕ) (b : ℕ) → ((i : ℕ) → i < n → 
 max-le zero f b h = omega arith
 max-le (suc n) f b h = omega (arith, max-le n f b (λ i l. h i (omega arith)), h n (omega arith))
 
+pub max-cong : (n : ℕ) (f g : ℕ → ℕ) → ((i : ℕ) → i < n → f i ≡ g i) → maxBelow n f ≡ maxBelow n g
+max-cong zero f g h = refl
+max-cong (suc n) f g h = ap₂ max (max-cong n f g (λ i l. h i (omega arith))) (h n (omega arith))
+
+pub one-same : (a b : Bool) → one a ≡ one b → a ≡ b
+one-same true true e = refl
+one-same true false e = absurd (omega arith)
+one-same false true e = absurd (omega arith)
+one-same false false e = refl
+
 pub one-le : (b : Bool) → one b ≤ 1
 one-le true = omega arith
 one-le false = omega arith

@@ -3,7 +3,7 @@ use Prim.Native.Nat.{ℕ, zero, suc, _+_, _≤_, _<_}
 use mathlib.Core.Path.{_≡_, refl, sym, ap, _∙_}
 use mathlib.Core.List.{List, [], _∷_, _++_}
 use native.Mathlib.Omega.{arith}
-use lib.ListN.{length, drop, set, length-set}
+use lib.ListN.{length, getD, drop, set, length-set, List·getD-append}
 use Rattle.rules.specs.Slices.{writeAt, overwrite}
 
 -- a list written after another
@@ -31,3 +31,11 @@ unfolding writeAt overwrite
 writeAt-overwrite [] l h = refl
 writeAt-overwrite (x ∷ xs) [] h = absurd (omega arith)
 writeAt-overwrite (x ∷ xs) (y ∷ ys) h = writeAt-tail 0 xs x ys ∙ ap (λ (z : List ℕ). x ∷ z) (writeAt-overwrite xs ys (omega arith))
+
+pub length-overwrite : (xs l : List ℕ) → length xs ≤ length l → length (overwrite xs l) ≡ length l
+length-overwrite xs l h = ap length (sym (writeAt-overwrite xs l h)) ∙ length-writeAt 0 xs l
+
+-- the entries that are written over
+pub overwrite-entry : (xs l : List ℕ) (i : ℕ) → i < length xs → getD (overwrite xs l) i 0 ≡ getD xs i 0
+unfolding overwrite
+overwrite-entry xs l i h = List·getD-append xs (drop (length xs) l) 0 i h

@@ -1,0 +1,126 @@
+-- Laws of Decide: the answer and the slice, by what the checks find. Relies on the laws of questions about a pair and of marks.
+use Prim.Native.Nat.{ℕ, _+_, _*_, _≤_, _<_}
+use mathlib.Core.Path.{_≡_, refl, sym, ap, ap₂, _∙_}
+use mathlib.Core.Bool.{Bool, true, false}
+use mathlib.Core.List.{List, [], _∷_}
+use native.Mathlib.Omega.{arith}
+use lib.Arith.{digits-lt}
+use lib.Dec.{eqb}
+use lib.ListN.{length, getD, take, drop}
+use borrow.Author.Tests.{lt-ltb, le-ltb}
+use Rattle.rules.specs.declared.Mode.{Mode}
+use Rattle.rules.specs.Below.{one}
+use Rattle.rules.specs.Slices.{overwrite}
+use Rattle.rules.specs.Machines.{Machine}
+use Rattle.rules.specs.Rounds.{mark, markAt, marks, keptCount, rounds}
+use Rattle.rules.proofs.SliceLaws.{overwrite-entry, length-overwrite}
+use Rattle.rules.proofs.MarkLaws.{marks-entry, length-marks}
+use Rattle.tables.specs.declared.reads.Entry.{Entry}
+use Rattle.tables.specs.declared.Refusal.{Refusal}
+use Rattle.tables.specs.declared.Checked.the-variants.{Passed, Fault}
+use Rattle.tables.specs.Checks.{refuse, fault, _then_}
+use Rattle.tables.specs.Answers.{Answer, turnedBack, carriedOut}
+use Rattle.tables.specs.File.{entryOf, bodyLength}
+use Rattle.moves.specs.States.{machineIn}
+use Rattle.marks.specs.declared.States.{States}
+use Rattle.marks.specs.declared.Summary.{Summary}
+use Rattle.marks.specs.Rounds.{TwoTables, demandIn, supplyIn, marksIn, summaryIn}
+use Rattle.checker.specs.declared.Question.{Question}
+use Rattle.checker.specs.Pairs.{pairChecks, PairAccepted, demandOf, supplyOf}
+use Rattle.checker.specs.Decide.{modeOf, decideChecks, decideAnswer, decideSlice}
+use Rattle.checker.proofs.PairLaws.{asked-checks, asked-demand, asked-supply, states-few, sorted-body, body-machine, machine-sound}
+
+-- a mark that is written stands at its entry
+pub marked-entry : (mode : Mode) (D S : Machine) (l : List ℕ) (t s : ℕ) → t < D .n → s < S .n → markAt (S .n) (overwrite (marks mode D S) l) t s ≡ mark mode D S t s
+marked-entry mode D S l t s p q =
+    overwrite-entry (marks mode D S) l (t * S .n + s) (omega (arith, digits-lt p q, length-marks mode D S)) ∙ marks-entry mode D S t s p q
+
+module _ (s : List ℕ) (q : Question) (mode : ℕ) where
+  -- by a number before 15
+  pub early-fault : (r : Refusal) (room : ℕ) → pairChecks s q ≡ Fault r → decideChecks s q mode room ≡ Fault r
+  unfolding decideChecks _then_
+  early-fault r room e = rw e refl
+
+  -- turned back: the refusal is the answer, and the slice is unchanged
+  pub turned-back : (r : Refusal) (entry : List ℕ) → decideChecks s q mode (length entry) ≡ Fault r
+      → (turnedBack r ≡ decideAnswer s q mode (length entry)) × (entry ≡ decideSlice s q mode entry)
+  unfolding decideAnswer decideSlice
+  turned-back r entry e = (rw e refl, rw e refl)
+
+  module _ (a : PairAccepted s q) where
+    pub mode-fault : (room : ℕ) → 1 < mode → decideChecks s q mode room ≡ Fault (refuse 15 0)
+    unfolding decideChecks _then_ fault
+    mode-fault room l = rw (asked-checks s q a, lt-ltb 1 mode l) refl
+
+    module _ (known : mode ≤ 1) where
+      -- the entries of the two tables, as they are read
+      module _ (d : Entry) (e : d ≡ entryOf s (q .demand .table)) (u : Entry) (f : u ≡ entryOf s (q .supply .table)) where
+        pairs-are : d .states * u .states ≡ demandOf s q .n * supplyOf s q .n
+        pairs-are = ap₂ (λ (x y : Entry). x .states * y .states) e f
+
+        pub short-fault : (room : ℕ) → room < d .states * u .states → decideChecks s q mode room ≡ Fault (refuse 14 0)
+        unfolding decideChecks _then_ fault
+        short-fault room l =
+            let short : room < demandOf s q .n * supplyOf s q .n = omega (arith, pairs-are) in
+            rw (asked-checks s q a, le-ltb 1 mode known, lt-ltb room (demandOf s q .n * supplyOf s q .n) short) refl
+
+        none-fault : (room : ℕ) → d .states * u .states ≤ room → decideChecks s q mode room ≡ Passed
+        unfolding decideChecks _then_ fault
+        none-fault room l =
+            let long : demandOf s q .n * supplyOf s q .n ≤ room = omega (arith, pairs-are) in
+            rw (asked-checks s q a, le-ltb 1 mode known, le-ltb room (demandOf s q .n * supplyOf s q .n) long) refl
+
+        -- the bodies, as they are found
+        module _ (b : List ℕ) (part : b ≡ take (bodyLength d) (drop (d .offset) s)) (g : List ℕ) (piece : g ≡ take (bodyLength u) (drop (u .offset) s)) where
+          abbrev states : States
+          states = record { demand = d .states; supply = u .states }
+
+          pub two-tables : TwoTables b g states
+          two-tables = record {
+            demand-rows = sorted-body s (q .demand .table) (q .demand .state) (asked-demand s q a) d e b part;
+            supply-rows = sorted-body s (q .supply .table) (q .supply .state) (asked-supply s q a) u f g piece;
+            demand-few = states-few s (q .demand .table) (q .demand .state) (asked-demand s q a) d e;
+            supply-few = states-few s (q .supply .table) (q .supply .state) (asked-supply s q a) u f;
+            demand-sound = machine-sound s (q .demand .table) (q .demand .state) (asked-demand s q a) d e b part;
+            supply-sound = machine-sound s (q .supply .table) (q .supply .state) (asked-supply s q a) u f g piece;
+          }
+
+          demand-is : demandIn b states ≡ demandOf s q
+          demand-is = body-machine s (q .demand .table) (q .demand .state) (asked-demand s q a) d e b part
+
+          supply-is : supplyIn g states ≡ supplyOf s q
+          supply-is = body-machine s (q .supply .table) (q .supply .state) (asked-supply s q a) u f g piece
+
+          -- the start pair's entry is one of the marks
+          pub start-within : q .demand .state * u .states + q .supply .state < d .states * u .states
+          start-within =
+              let one : q .demand .state < demandOf s q .n = asked-demand s q a .state in
+              let two : q .supply .state < supplyOf s q .n = asked-supply s q a .state in
+              let height : d .states ≡ demandOf s q .n = ap (λ (x : Entry). x .states) e in
+              let width : u .states ≡ supplyOf s q .n = ap (λ (x : Entry). x .states) f in
+              rw (height, width) (digits-lt one two)
+
+          -- carried out: the start's mark tells yes or no, and the marks stand before the rest of the slice
+          module _ (m : Mode) (same : m ≡ modeOf mode) (entry exit : List ℕ) (room : d .states * u .states ≤ length entry)
+              (left : exit ≡ overwrite (marksIn m b g states) entry) (sum : Summary) (told : sum ≡ summaryIn m b g states) where
+            written : exit ≡ overwrite (marks (modeOf mode) (demandOf s q) (supplyOf s q)) entry
+            written = left ∙ rw (same, demand-is, supply-is) refl
+
+            pub marks-long : d .states * u .states ≤ length exit
+            marks-long = rw (left, length-overwrite (marksIn m b g states) entry (omega (arith, length-marks m (demandIn b states) (supplyIn g states)))) room
+
+            start-mark : getD exit (q .demand .state * u .states + q .supply .state) 0 ≡ mark (modeOf mode) (demandOf s q) (supplyOf s q) (q .demand .state) (q .supply .state)
+            start-mark =
+                let width : u .states ≡ supplyOf s q .n = ap (λ (x : Entry). x .states) f in
+                ap₂ (λ (l : List ℕ) (n : ℕ). getD l (q .demand .state * n + q .supply .state) 0)
+                written width
+                ∙ marked-entry (modeOf mode) (demandOf s q) (supplyOf s q) entry (q .demand .state) (q .supply .state) (asked-demand s q a .state) (asked-supply s q a .state)
+
+            pub carried-out :
+                (carriedOut (one (eqb (getD exit (q .demand .state * u .states + q .supply .state) 0) 0) ∷ sum .kept ∷ sum .rounds ∷ []) ≡ decideAnswer s q mode (length entry))
+                × (exit ≡ decideSlice s q mode entry)
+            unfolding decideAnswer decideSlice
+            carried-out = (
+              rw (none-fault (length entry) room, start-mark, told, same, demand-is, supply-is) refl,
+              rw (none-fault (length entry) room) written,
+            )

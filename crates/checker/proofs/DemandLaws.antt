@@ -1,0 +1,216 @@
+-- What Decide answers and leaves meets the second and the third demand. Relies on the laws of marks, of runs and of Decide.
+use Prim.Native.Nat.{ℕ, suc, _+_, _*_, _≤_, _<_}
+use mathlib.Core.Path.{_≡_, refl, sym, ap, ap₂, _∙_, subst}
+use mathlib.Core.Bool.{Bool, true, false, not, _&&_, true≢false}
+use mathlib.Core.List.{List, [], _∷_}
+use mathlib.Core.Logic.{_↔_}
+use native.Mathlib.Omega.{arith}
+use lib.Dec.{T, ltb, ltb→lt, lt→ltb, eqb, eqb→eq}
+use lib.ListN.{length, getD}
+use Rattle.rules.specs.declared.Mode.{Mode}
+use Rattle.rules.specs.declared.Mode.the-variants.{Full}
+use Rattle.rules.specs.Below.{maxBelow, one}
+use Rattle.rules.specs.Slices.{overwrite}
+use Rattle.rules.specs.Machines.{Machine, Sound}
+use Rattle.rules.specs.Relations.{Pairs, Passing, Meets}
+use Rattle.rules.specs.Rounds.{Kept, KeptSet, mark, markAt, marks, countPairs, keptCount, struckCount, rounds}
+use Rattle.rules.specs.Runs.{Free}
+use Rattle.rules.proofs.Booleans.{T-true, T-false, true-T, eq-T, and-i, and-l, and-r}
+use Rattle.rules.proofs.BelowLaws.{count-cong, max-cong, one-same}
+use Rattle.rules.proofs.RelationLaws.{holds-mono}
+use Rattle.rules.proofs.RoundLaws.{below-pair}
+use Rattle.rules.proofs.MarkLaws.{mark-zero, mark-round, kept-set-meets, kept-set-largest, rounds-struck}
+use Rattle.rules.proofs.RunLaws.{kept-free}
+use Rattle.tables.specs.declared.Refusal.{Refusal}
+use Rattle.tables.specs.declared.Checked.{Checked}
+use Rattle.tables.specs.declared.Checked.the-variants.{Passed, Fault}
+use Rattle.tables.specs.Answers.{Answer, answer, carriedOut}
+use Rattle.tables.proofs.CheckLaws.{then-left}
+use Rattle.checker.specs.declared.Question.{Question}
+use Rattle.checker.specs.declared.Verdict.{Verdict}
+use Rattle.checker.specs.declared.Decided.{Decided}
+use Rattle.checker.specs.declared.Decided.the-variants.{Answered}
+use Rattle.checker.specs.Answers.{decided, sliceAfter}
+use Rattle.checker.specs.Pairs.{PairAccepted, demandOf, supplyOf}
+use Rattle.checker.specs.Decide.{modeOf, decideChecks, decideAnswer, decideSlice}
+use Rattle.checker.specs.Demands.{KeptIn, SecondDemand, ThirdDemand, ThirdDemandAll}
+use Rattle.checker.proofs.PairLaws.{checks-asked, asked-demand, asked-supply, table-at-sound}
+use Rattle.checker.proofs.DecideLaws.{marked-entry}
+
+-- ---- what a verdict and a slice tell
+
+pub record Tells (mode : Mode) (D S : Machine) (t s : ℕ) (v : Verdict) (slice : List ℕ) : Type 0 where
+  pub start : (t < D .n) × (s < S .n)
+  pub yes : v .yes ≡ eqb (mark mode D S t s) 0
+  pub kept : v .kept ≡ keptCount mode D S
+  pub rounds-are : v .rounds ≡ rounds mode D S
+  pub marked : (u w : ℕ) → u < D .n → w < S .n → markAt (S .n) slice u w ≡ mark mode D S u w
+
+module _ (mode : Mode) (D S : Machine) (t s : ℕ) (v : Verdict) (slice : List ℕ) (h : Tells mode D S t s v slice) where
+  to-kept : (u w : ℕ) → KeptSet mode D S u w → KeptIn D S slice u w
+  to-kept u w (l, k, e) = (l, k, h .marked u w l k ∙ e)
+
+  from-kept : (u w : ℕ) → KeptIn D S slice u w → KeptSet mode D S u w
+  from-kept u w (l, k, e) = (l, k, sym (h .marked u w l k) ∙ e)
+
+  kept-meets : Meets mode D S (KeptIn D S slice)
+  kept-meets = record {
+    below = λ u w m. (m .0, m .1);
+    holds = λ u w m. holds-mono mode D S (KeptSet mode D S) (KeptIn D S slice) to-kept u w (kept-set-meets mode D S .holds u w (from-kept u w m));
+  }
+
+  kept-counted : v .kept ≡ countPairs D S (λ u w. eqb (markAt (S .n) slice u w) 0)
+  unfolding keptCount
+  kept-counted =
+      h .kept ∙ count-cong D S (λ u w. eqb (mark mode D S u w) 0) (λ u w. eqb (markAt (S .n) slice u w) 0) (λ u w l k. ap (λ (x : ℕ). eqb x 0) (sym (h .marked u w l k)))
+
+  -- a yes: the start is in the kept set
+  yes-kept : v .yes ≡ true → KeptIn D S slice t s
+  yes-kept e = to-kept t s (h .start .0, h .start .1, eqb→eq (mark mode D S t s) 0 (true-T (eqb (mark mode D S t s) 0) (sym (h .yes) ∙ e)))
+
+  kept-yes : KeptIn D S slice t s → v .yes ≡ true
+  kept-yes m = h .yes ∙ T-true (eqb (mark mode D S t s) 0) (eq-T (mark mode D S t s) 0 (from-kept t s m .2))
+
+  -- a no, from what a yes would imply
+  no-from : (v .yes ≡ true → ⊥) → v .yes ≡ false
+  no-from f = T-false (v .yes) (λ y. f (T-true (v .yes) y))
+
+  rival-kept : (R : Pairs) → Meets mode D S R → (u w : ℕ) → R u w → KeptIn D S slice u w
+  rival-kept R m u w r = to-kept u w (kept-set-largest mode D S R m u w r)
+
+  pub third-all : ThirdDemandAll mode D S t s v slice
+  third-all = record {
+    rivals = rival-kept;
+    ours = kept-meets;
+    count = kept-counted;
+    no-exactly = (
+      λ e R m r. true≢false (sym (kept-yes (rival-kept R m t s r)) ∙ e),
+      λ f. no-from (λ y. f (KeptIn D S slice) kept-meets (yes-kept y)),
+    );
+  }
+
+  -- the kept set as a test
+  abbrev keptTest : ℕ → ℕ → Bool
+  keptTest u w = ltb u (D .n) && (ltb w (S .n) && eqb (markAt (S .n) slice u w) 0)
+
+  test-kept : (u w : ℕ) → T (keptTest u w) → KeptIn D S slice u w
+  test-kept u w p =
+      let rest = and-r (ltb u (D .n)) (ltb w (S .n) && eqb (markAt (S .n) slice u w) 0) p in
+      (ltb→lt u (D .n) (and-l (ltb u (D .n)) (ltb w (S .n) && eqb (markAt (S .n) slice u w) 0) p),
+      ltb→lt w (S .n) (and-l (ltb w (S .n)) (eqb (markAt (S .n) slice u w) 0) rest),
+      eqb→eq (markAt (S .n) slice u w) 0 (and-r (ltb w (S .n)) (eqb (markAt (S .n) slice u w) 0) rest))
+
+  kept-test : (u w : ℕ) → KeptIn D S slice u w → T (keptTest u w)
+  kept-test u w (l, k, e) =
+      and-i (ltb u (D .n)) (ltb w (S .n) && eqb (markAt (S .n) slice u w) 0) (lt→ltb u (D .n) l)
+      (and-i (ltb w (S .n)) (eqb (markAt (S .n) slice u w) 0) (lt→ltb w (S .n) k) (eq-T (markAt (S .n) slice u w) 0 e))
+
+  test-meets : Meets mode D S (Passing keptTest)
+  test-meets = record {
+    below = λ u w p. (test-kept u w p .0, test-kept u w p .1);
+    holds = λ u w p. holds-mono mode D S (KeptIn D S slice) (Passing keptTest) kept-test u w (kept-meets .holds u w (test-kept u w p));
+  }
+
+  pub third : ThirdDemand mode D S t s v slice
+  third = record {
+    rivals = λ R. rival-kept (Passing R);
+    ours = kept-meets;
+    count = kept-counted;
+    no-exactly = (λ e R. third-all .no-exactly .0 e (Passing R), λ f. no-from (λ y. f keptTest test-meets (kept-test t s (yes-kept y))));
+  }
+
+  -- the highest mark written
+  highest-mark : v .rounds ≡ maxBelow (D .n) (λ u. maxBelow (S .n) (λ w. markAt (S .n) slice u w))
+  unfolding rounds
+  highest-mark =
+      h .rounds-are
+      ∙ max-cong (D .n) (λ u. maxBelow (S .n) (λ w. mark mode D S u w)) (λ u. maxBelow (S .n) (λ w. markAt (S .n) slice u w))
+      (λ u l. max-cong (S .n) (λ w. mark mode D S u w) (λ w. markAt (S .n) slice u w) (λ w k. sym (h .marked u w l k)))
+
+  few : v .rounds ≤ countPairs D S (λ u w. not (eqb (markAt (S .n) slice u w) 0))
+  unfolding struckCount
+  few =
+      let same = count-cong D S (λ u w. not (eqb (mark mode D S u w) 0)) (λ u w. not (eqb (markAt (S .n) slice u w) 0)) (λ u w l k. ap (λ (x : ℕ). not (eqb x 0)) (sym (h .marked u w l k))) in
+      let are = h .rounds-are in
+      omega (arith, rounds-struck mode D S)
+
+  pub second : Sound D → Sound S → SecondDemand mode D S t s v slice
+  second sd ss = record {
+    full-yes = by-runs;
+    struck = λ k u w l m. (
+      λ e. mark-round mode D S k u w .0 (sym (h .marked u w l m) ∙ e),
+      λ r. h .marked u w l m ∙ mark-round mode D S k u w .1 r,
+    );
+    kept = λ u w l m. (
+      λ e. mark-zero mode D S u w (below-pair D S u w l m) .0 (sym (h .marked u w l m) ∙ e),
+      λ f. h .marked u w l m ∙ mark-zero mode D S u w (below-pair D S u w l m) .1 f,
+    );
+    highest = highest-mark;
+    few-rounds = few;
+  }
+    where
+      by-runs : mode ≡ Full → (v .yes ≡ true) ↔ Free D S t s
+      by-runs e = (
+        λ y. kept-free D S sd ss t s (h .start .0) (h .start .1) .0 (subst (λ (m : Mode). mark m D S t s ≡ 0) e (from-kept t s (yes-kept y) .2)),
+        λ f. kept-yes (to-kept t s (h .start .0, h .start .1,
+            subst (λ (m : Mode). mark m D S t s ≡ 0) (sym e) (kept-free D S sd ss t s (h .start .0) (h .start .1) .1 f))),
+      )
+
+-- ---- of a call of Decide
+
+-- a call that is answered passed its checks
+passed : (c : Checked) (x : ℕ) (xs values : List ℕ) → carriedOut (x ∷ xs) ≡ answer c values → (c ≡ Passed) × (x ∷ xs ≡ values)
+passed Passed x xs values e = (refl, ap (λ (a : Answer). a .values) e)
+passed (Fault r) x xs values e = let none : suc (length xs) ≡ 0 = ap (λ (a : Answer). length (a .values)) e in absurd (omega arith)
+
+module _ (file : List ℕ) (q : Question) (mode : ℕ) (entry exit : List ℕ) (r : Decided) (told : decided r ≡ decideAnswer file q mode (length entry))
+    (left : exit ≡ decideSlice file q mode entry) (v : Verdict) (is : r ≡ Answered v) where
+  abbrev D : Machine
+  D = demandOf file q
+
+  abbrev S : Machine
+  S = supplyOf file q
+
+  outcome : (decideChecks file q mode (length entry) ≡ Passed)
+      × (one (v .yes) ∷ v .kept ∷ v .rounds ∷ []
+      ≡ one (eqb (mark (modeOf mode) D S (q .demand .state) (q .supply .state)) 0) ∷ keptCount (modeOf mode) D S ∷ rounds (modeOf mode) D S ∷ [])
+  unfolding decideAnswer
+  outcome = passed (decideChecks file q mode (length entry)) _ _ _ (sym (ap decided is) ∙ told)
+
+  asked : PairAccepted file q
+  unfolding decideChecks
+  asked = checks-asked file q (then-left _ _ (outcome .0))
+
+  written : exit ≡ overwrite (marks (modeOf mode) D S) entry
+  unfolding decideSlice
+  written = left ∙ ap (λ (c : Checked). sliceAfter c (overwrite (marks (modeOf mode) D S) entry) entry) (outcome .0)
+
+  tells : Tells (modeOf mode) D S (q .demand .state) (q .supply .state) v exit
+  tells = record {
+    start = (asked-demand file q asked .state, asked-supply file q asked .state);
+    yes = one-same (v .yes) (eqb (mark (modeOf mode) D S (q .demand .state) (q .supply .state)) 0) (ap (λ (l : List ℕ). getD l 0 0) (outcome .1));
+    kept = ap (λ (l : List ℕ). getD l 1 0) (outcome .1);
+    rounds-are = ap (λ (l : List ℕ). getD l 2 0) (outcome .1);
+    marked = λ u w l k. ap (λ (x : List ℕ). markAt (S .n) x u w) written ∙ marked-entry (modeOf mode) D S entry u w l k;
+  }
+
+  pub second-demand : SecondDemand (modeOf mode) D S (q .demand .state) (q .supply .state) v exit
+  second-demand =
+      second (modeOf mode) D S (q .demand .state) (q .supply .state) v exit tells
+      (table-at-sound file (q .demand .table) (q .demand .state) (asked-demand file q asked))
+      (table-at-sound file (q .supply .table) (q .supply .state) (asked-supply file q asked))
+
+  pub third-demand : ThirdDemand (modeOf mode) D S (q .demand .state) (q .supply .state) v exit
+  third-demand = third (modeOf mode) D S (q .demand .state) (q .supply .state) v exit tells
+
+  -- for every predicate
+  pub third-demand-all : ThirdDemandAll (modeOf mode) D S (q .demand .state) (q .supply .state) v exit
+  third-demand-all = third-all (modeOf mode) D S (q .demand .state) (q .supply .state) v exit tells
+
+-- what Decide ensures, from its answer and the slice
+pub demands : (file : List ℕ) (q : Question) (mode : ℕ) (entry exit : List ℕ) (r : Decided)
+    → (decided r ≡ decideAnswer file q mode (length entry)) × (exit ≡ decideSlice file q mode entry)
+    → (decided r ≡ decideAnswer file q mode (length entry)) × ((exit ≡ decideSlice file q mode entry)
+    × (((v : Verdict) → r ≡ Answered v → SecondDemand (modeOf mode) (demandOf file q) (supplyOf file q) (q .demand .state) (q .supply .state) v exit)
+    × ((v : Verdict) → r ≡ Answered v → ThirdDemand (modeOf mode) (demandOf file q) (supplyOf file q) (q .demand .state) (q .supply .state) v exit)))
+demands file q mode entry exit r (told, left) = (told, (left, (second-demand file q mode entry exit r told left, third-demand file q mode entry exit r told left)))

@@ -1,0 +1,52 @@
+-- The second and the third demand of the mission, of what a call of Decide that is carried out answers and leaves: in a mode, for the machines
+-- D and S of the two tables and the start pair (t, s), the verdict v, and the slice at exit.
+use Prim.Native.Nat.{ℕ, suc, _≤_, _<_}
+use mathlib.Core.Path.{_≡_}
+use mathlib.Core.Bool.{Bool, true, false, not}
+use mathlib.Core.List.{List}
+use mathlib.Core.Logic.{_↔_}
+use lib.Dec.{T, eqb}
+use Rattle.rules.specs.declared.Mode.{Mode}
+use Rattle.rules.specs.declared.Mode.the-variants.{Full}
+use Rattle.rules.specs.Below.{maxBelow}
+use Rattle.rules.specs.Machines.{Machine}
+use Rattle.rules.specs.Relations.{Pairs, Passing, Meets}
+use Rattle.rules.specs.Rounds.{Kept, markAt, countPairs}
+use Rattle.rules.specs.Runs.{Free}
+use Rattle.checker.specs.declared.Verdict.{Verdict}
+
+-- "Marked 0 means kept; the kept set of a carried-out call that writes marks is the pairs of states whose mark it wrote as 0."
+abbrev pub KeptIn : Machine → Machine → List ℕ → Pairs
+KeptIn D S slice u w = (u < D .n) × (w < S .n) × (markAt (S .n) slice u w ≡ 0)
+
+-- The third demand, whole: for any set of pairs that a rival writes down, as a test.
+pub record ThirdDemand (mode : Mode) (D S : Machine) (t s : ℕ) (v : Verdict) (slice : List ℕ) : Type 0 where
+  -- "if the rival's set meets the definition, each of its pairs is kept in ours"
+  pub rivals : (R : ℕ → ℕ → Bool) → Meets mode D S (Passing R) → (u w : ℕ) → T (R u w) → KeptIn D S slice u w
+  -- "our kept set meets the definition"
+  pub ours : Meets mode D S (KeptIn D S slice)
+  -- "the count kept is the number of its pairs"
+  pub count : v .kept ≡ countPairs D S (λ u w. eqb (markAt (S .n) slice u w) 0)
+  -- "the start gets a no exactly when no set that meets the definition holds it"
+  pub no-exactly : (v .yes ≡ false) ↔ ((R : ℕ → ℕ → Bool) → Meets mode D S (Passing R) → T (R t s) → ⊥)
+
+-- The same for every set of pairs at all.
+pub record ThirdDemandAll (mode : Mode) (D S : Machine) (t s : ℕ) (v : Verdict) (slice : List ℕ) : Type 1 where
+  pub rivals : (R : Pairs) → Meets mode D S R → (u w : ℕ) → R u w → KeptIn D S slice u w
+  pub ours : Meets mode D S (KeptIn D S slice)
+  pub count : v .kept ≡ countPairs D S (λ u w. eqb (markAt (S .n) slice u w) 0)
+  pub no-exactly : (v .yes ≡ false) ↔ ((R : Pairs) → Meets mode D S R → R t s → ⊥)
+
+-- The second demand, of a verdict.
+pub record SecondDemand (mode : Mode) (D S : Machine) (t s : ℕ) (v : Verdict) (slice : List ℕ) : Type 0 where
+  -- "A full yes is said exactly if no run of these moves reaches a stuck pair or an unmet request."
+  pub full-yes : mode ≡ Full → (v .yes ≡ true) ↔ Free D S t s
+  -- "In both modes each struck pair bears the round in which the stepwise definition first loses it": the rounds up to k keep it, the next does not
+  pub struck : (k u w : ℕ) → u < D .n → w < S .n
+      → (markAt (S .n) slice u w ≡ suc k) ↔ (((i : ℕ) → i ≤ k → Kept mode D S i u w) × (Kept mode D S (suc k) u w → ⊥))
+  -- and 0 "if every round does"
+  pub kept : (u w : ℕ) → u < D .n → w < S .n → (markAt (S .n) slice u w ≡ 0) ↔ ((k : ℕ) → Kept mode D S k u w)
+  -- "rounds, the highest mark written, 0 where all pairs are kept"
+  pub highest : v .rounds ≡ maxBelow (D .n) (λ u. maxBelow (S .n) (λ w. markAt (S .n) slice u w))
+  -- "Rounds never exceed the count of struck pairs."
+  pub few-rounds : v .rounds ≤ countPairs D S (λ u w. not (eqb (markAt (S .n) slice u w) 0))
