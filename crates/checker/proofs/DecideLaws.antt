@@ -22,7 +22,7 @@ use Rattle.tables.specs.Checks.{refuse, fault, _then_}
 use Rattle.tables.specs.Answers.{Answer, turnedBack, carriedOut}
 use Rattle.tables.specs.File.{entryOf, bodyLength}
 use Rattle.moves.specs.States.{machineIn}
-use Rattle.marks.specs.declared.States.{States}
+use Rattle.marks.specs.declared.Sizes.{Sizes}
 use Rattle.marks.specs.declared.Summary.{Summary}
 use Rattle.marks.specs.Rounds.{TwoTables, demandIn, supplyIn, marksIn, summaryIn}
 use Rattle.checker.specs.declared.Question.{Question}
@@ -72,10 +72,10 @@ module _ (s : List ℕ) (q : Question) (mode : ℕ) where
 
         -- the bodies, as they are found
         module _ (b : List ℕ) (part : b ≡ take (bodyLength d) (drop (d .offset) s)) (g : List ℕ) (piece : g ≡ take (bodyLength u) (drop (u .offset) s)) where
-          abbrev states : States
-          states = record { demand = d .states; supply = u .states }
+          abbrev sizes : Sizes
+          sizes = record { demand = d .states; supply = u .states }
 
-          pub two-tables : TwoTables b g states
+          pub two-tables : TwoTables b g sizes
           two-tables = record {
             demand-rows = sorted-body s (q .demand .table) (q .demand .state) (asked-demand s q a) d e b part;
             supply-rows = sorted-body s (q .supply .table) (q .supply .state) (asked-supply s q a) u f g piece;
@@ -85,10 +85,10 @@ module _ (s : List ℕ) (q : Question) (mode : ℕ) where
             supply-sound = machine-sound s (q .supply .table) (q .supply .state) (asked-supply s q a) u f g piece;
           }
 
-          demand-is : demandIn b states ≡ demandOf s q
+          demand-is : demandIn b sizes ≡ demandOf s q
           demand-is = body-machine s (q .demand .table) (q .demand .state) (asked-demand s q a) d e b part
 
-          supply-is : supplyIn g states ≡ supplyOf s q
+          supply-is : supplyIn g sizes ≡ supplyOf s q
           supply-is = body-machine s (q .supply .table) (q .supply .state) (asked-supply s q a) u f g piece
 
           -- the start pair's entry is one of the marks
@@ -102,12 +102,12 @@ module _ (s : List ℕ) (q : Question) (mode : ℕ) where
 
           -- carried out: the start's mark tells yes or no, and the marks stand before the rest of the slice
           module _ (m : Mode) (same : m ≡ modeOf mode) (entry exit : List ℕ) (room : d .states * u .states ≤ length entry)
-              (left : exit ≡ overwrite (marksIn m b g states) entry) (sum : Summary) (told : sum ≡ summaryIn m b g states) where
+              (left : exit ≡ overwrite (marksIn m b g sizes) entry) (sum : Summary) (told : sum ≡ summaryIn m b g sizes) where
             written : exit ≡ overwrite (marks (modeOf mode) (demandOf s q) (supplyOf s q)) entry
             written = left ∙ rw (same, demand-is, supply-is) refl
 
             pub marks-long : d .states * u .states ≤ length exit
-            marks-long = rw (left, length-overwrite (marksIn m b g states) entry (omega (arith, length-marks m (demandIn b states) (supplyIn g states)))) room
+            marks-long = rw (left, length-overwrite (marksIn m b g sizes) entry (omega (arith, length-marks m (demandIn b sizes) (supplyIn g sizes)))) room
 
             start-mark : getD exit (q .demand .state * u .states + q .supply .state) 0 ≡ mark (modeOf mode) (demandOf s q) (supplyOf s q) (q .demand .state) (q .supply .state)
             start-mark =

@@ -1,7 +1,7 @@
 -- What Decide answers and leaves meets the second and the third demand. Relies on the laws of marks, of runs and of Decide.
 use Prim.Native.Nat.{ℕ, suc, _+_, _*_, _≤_, _<_}
 use mathlib.Core.Path.{_≡_, refl, sym, ap, ap₂, _∙_, subst}
-use mathlib.Core.Bool.{Bool, true, false, not, _&&_, true≢false}
+use mathlib.Core.Bool.{Bool, true, false, not, _&&_}
 use mathlib.Core.List.{List, [], _∷_}
 use mathlib.Core.Logic.{_↔_}
 use native.Mathlib.Omega.{arith}
@@ -27,9 +27,7 @@ use Rattle.tables.specs.declared.Checked.the-variants.{Passed, Fault}
 use Rattle.tables.specs.Answers.{Answer, answer, carriedOut}
 use Rattle.tables.proofs.CheckLaws.{then-left}
 use Rattle.checker.specs.declared.Question.{Question}
-use Rattle.checker.specs.declared.Verdict.{Verdict}
 use Rattle.checker.specs.declared.Decided.{Decided}
-use Rattle.checker.specs.declared.Decided.the-variants.{Answered}
 use Rattle.checker.specs.Answers.{decided, sliceAfter}
 use Rattle.checker.specs.Pairs.{PairAccepted, demandOf, supplyOf}
 use Rattle.checker.specs.Decide.{modeOf, decideChecks, decideAnswer, decideSlice}
@@ -39,14 +37,14 @@ use Rattle.checker.proofs.DecideLaws.{marked-entry}
 
 -- ---- what a verdict and a slice tell
 
-pub record Tells (mode : Mode) (D S : Machine) (t s : ℕ) (v : Verdict) (slice : List ℕ) : Type 0 where
+pub record Tells (mode : Mode) (D S : Machine) (t s verdict kept highest : ℕ) (slice : List ℕ) : Type 0 where
   pub start : (t < D .n) × (s < S .n)
-  pub yes : v .yes ≡ eqb (mark mode D S t s) 0
-  pub kept : v .kept ≡ keptCount mode D S
-  pub rounds-are : v .rounds ≡ rounds mode D S
+  pub yes : verdict ≡ one (eqb (mark mode D S t s) 0)
+  pub kept-are : kept ≡ keptCount mode D S
+  pub rounds-are : highest ≡ rounds mode D S
   pub marked : (u w : ℕ) → u < D .n → w < S .n → markAt (S .n) slice u w ≡ mark mode D S u w
 
-module _ (mode : Mode) (D S : Machine) (t s : ℕ) (v : Verdict) (slice : List ℕ) (h : Tells mode D S t s v slice) where
+module _ (mode : Mode) (D S : Machine) (t s verdict kept highest : ℕ) (slice : List ℕ) (h : Tells mode D S t s verdict kept highest slice) where
   to-kept : (u w : ℕ) → KeptSet mode D S u w → KeptIn D S slice u w
   to-kept u w (l, k, e) = (l, k, h .marked u w l k ∙ e)
 
@@ -59,32 +57,32 @@ module _ (mode : Mode) (D S : Machine) (t s : ℕ) (v : Verdict) (slice : List �
     holds = λ u w m. holds-mono mode D S (KeptSet mode D S) (KeptIn D S slice) to-kept u w (kept-set-meets mode D S .holds u w (from-kept u w m));
   }
 
-  kept-counted : v .kept ≡ countPairs D S (λ u w. eqb (markAt (S .n) slice u w) 0)
+  kept-counted : kept ≡ countPairs D S (λ u w. eqb (markAt (S .n) slice u w) 0)
   unfolding keptCount
   kept-counted =
-      h .kept ∙ count-cong D S (λ u w. eqb (mark mode D S u w) 0) (λ u w. eqb (markAt (S .n) slice u w) 0) (λ u w l k. ap (λ (x : ℕ). eqb x 0) (sym (h .marked u w l k)))
+      h .kept-are ∙ count-cong D S (λ u w. eqb (mark mode D S u w) 0) (λ u w. eqb (markAt (S .n) slice u w) 0) (λ u w l k. ap (λ (x : ℕ). eqb x 0) (sym (h .marked u w l k)))
 
   -- a yes: the start is in the kept set
-  yes-kept : v .yes ≡ true → KeptIn D S slice t s
-  yes-kept e = to-kept t s (h .start .0, h .start .1, eqb→eq (mark mode D S t s) 0 (true-T (eqb (mark mode D S t s) 0) (sym (h .yes) ∙ e)))
+  yes-kept : verdict ≡ 1 → KeptIn D S slice t s
+  yes-kept e = to-kept t s (h .start .0, h .start .1, eqb→eq (mark mode D S t s) 0 (true-T (eqb (mark mode D S t s) 0) (one-same (eqb (mark mode D S t s) 0) true (sym (h .yes) ∙ e))))
 
-  kept-yes : KeptIn D S slice t s → v .yes ≡ true
-  kept-yes m = h .yes ∙ T-true (eqb (mark mode D S t s) 0) (eq-T (mark mode D S t s) 0 (from-kept t s m .2))
+  kept-yes : KeptIn D S slice t s → verdict ≡ 1
+  kept-yes m = h .yes ∙ ap one (T-true (eqb (mark mode D S t s) 0) (eq-T (mark mode D S t s) 0 (from-kept t s m .2)))
 
   -- a no, from what a yes would imply
-  no-from : (v .yes ≡ true → ⊥) → v .yes ≡ false
-  no-from f = T-false (v .yes) (λ y. f (T-true (v .yes) y))
+  no-from : (verdict ≡ 1 → ⊥) → verdict ≡ 0
+  no-from f = h .yes ∙ ap one (T-false (eqb (mark mode D S t s) 0) (λ y. f (h .yes ∙ ap one (T-true (eqb (mark mode D S t s) 0) y))))
 
   rival-kept : (R : Pairs) → Meets mode D S R → (u w : ℕ) → R u w → KeptIn D S slice u w
   rival-kept R m u w r = to-kept u w (kept-set-largest mode D S R m u w r)
 
-  pub third-all : ThirdDemandAll mode D S t s v slice
+  pub third-all : ThirdDemandAll mode D S t s verdict kept slice
   third-all = record {
     rivals = rival-kept;
     ours = kept-meets;
     count = kept-counted;
     no-exactly = (
-      λ e R m r. true≢false (sym (kept-yes (rival-kept R m t s r)) ∙ e),
+      λ e R m r. (let one = kept-yes (rival-kept R m t s r) in omega arith),
       λ f. no-from (λ y. f (KeptIn D S slice) kept-meets (yes-kept y)),
     );
   }
@@ -111,7 +109,7 @@ module _ (mode : Mode) (D S : Machine) (t s : ℕ) (v : Verdict) (slice : List �
     holds = λ u w p. holds-mono mode D S (KeptIn D S slice) (Passing keptTest) kept-test u w (kept-meets .holds u w (test-kept u w p));
   }
 
-  pub third : ThirdDemand mode D S t s v slice
+  pub third : ThirdDemand mode D S t s verdict kept slice
   third = record {
     rivals = λ R. rival-kept (Passing R);
     ours = kept-meets;
@@ -120,21 +118,21 @@ module _ (mode : Mode) (D S : Machine) (t s : ℕ) (v : Verdict) (slice : List �
   }
 
   -- the highest mark written
-  highest-mark : v .rounds ≡ maxBelow (D .n) (λ u. maxBelow (S .n) (λ w. markAt (S .n) slice u w))
+  highest-mark : highest ≡ maxBelow (D .n) (λ u. maxBelow (S .n) (λ w. markAt (S .n) slice u w))
   unfolding rounds
   highest-mark =
       h .rounds-are
       ∙ max-cong (D .n) (λ u. maxBelow (S .n) (λ w. mark mode D S u w)) (λ u. maxBelow (S .n) (λ w. markAt (S .n) slice u w))
       (λ u l. max-cong (S .n) (λ w. mark mode D S u w) (λ w. markAt (S .n) slice u w) (λ w k. sym (h .marked u w l k)))
 
-  few : v .rounds ≤ countPairs D S (λ u w. not (eqb (markAt (S .n) slice u w) 0))
+  few : highest ≤ countPairs D S (λ u w. not (eqb (markAt (S .n) slice u w) 0))
   unfolding struckCount
   few =
       let same = count-cong D S (λ u w. not (eqb (mark mode D S u w) 0)) (λ u w. not (eqb (markAt (S .n) slice u w) 0)) (λ u w l k. ap (λ (x : ℕ). not (eqb x 0)) (sym (h .marked u w l k))) in
       let are = h .rounds-are in
       omega (arith, rounds-struck mode D S)
 
-  pub second : Sound D → Sound S → SecondDemand mode D S t s v slice
+  pub second : Sound D → Sound S → SecondDemand mode D S t s verdict highest slice
   second sd ss = record {
     full-yes = by-runs;
     struck = λ k u w l m. (
@@ -149,7 +147,7 @@ module _ (mode : Mode) (D S : Machine) (t s : ℕ) (v : Verdict) (slice : List �
     few-rounds = few;
   }
     where
-      by-runs : mode ≡ Full → (v .yes ≡ true) ↔ Free D S t s
+      by-runs : mode ≡ Full → (verdict ≡ 1) ↔ Free D S t s
       by-runs e = (
         λ y. kept-free D S sd ss t s (h .start .0) (h .start .1) .0 (subst (λ (m : Mode). mark m D S t s ≡ 0) e (from-kept t s (yes-kept y) .2)),
         λ f. kept-yes (to-kept t s (h .start .0, h .start .1,
@@ -158,13 +156,13 @@ module _ (mode : Mode) (D S : Machine) (t s : ℕ) (v : Verdict) (slice : List �
 
 -- ---- of a call of Decide
 
--- a call that is answered passed its checks
-passed : (c : Checked) (x : ℕ) (xs values : List ℕ) → carriedOut (x ∷ xs) ≡ answer c values → (c ≡ Passed) × (x ∷ xs ≡ values)
+-- a call that returns values passed its checks
+passed : (c : Checked) (x : ℕ) (xs values : List ℕ) → answer c values ≡ carriedOut (x ∷ xs) → (c ≡ Passed) × (values ≡ x ∷ xs)
 passed Passed x xs values e = (refl, ap (λ (a : Answer). a .values) e)
-passed (Fault r) x xs values e = let none : suc (length xs) ≡ 0 = ap (λ (a : Answer). length (a .values)) e in absurd (omega arith)
+passed (Fault r) x xs values e = let none : 0 ≡ suc (length xs) = ap (λ (a : Answer). length (a .values)) e in absurd (omega arith)
 
-module _ (file : List ℕ) (q : Question) (mode : ℕ) (entry exit : List ℕ) (r : Decided) (told : decided r ≡ decideAnswer file q mode (length entry))
-    (left : exit ≡ decideSlice file q mode entry) (v : Verdict) (is : r ≡ Answered v) where
+module _ (file : List ℕ) (q : Question) (mode : ℕ) (entry exit : List ℕ) (left : exit ≡ decideSlice file q mode entry)
+    (verdict kept highest : ℕ) (told : decideAnswer file q mode (length entry) ≡ carriedOut (verdict ∷ kept ∷ highest ∷ [])) where
   abbrev D : Machine
   D = demandOf file q
 
@@ -172,10 +170,9 @@ module _ (file : List ℕ) (q : Question) (mode : ℕ) (entry exit : List ℕ) (
   S = supplyOf file q
 
   outcome : (decideChecks file q mode (length entry) ≡ Passed)
-      × (one (v .yes) ∷ v .kept ∷ v .rounds ∷ []
-      ≡ one (eqb (mark (modeOf mode) D S (q .demand .state) (q .supply .state)) 0) ∷ keptCount (modeOf mode) D S ∷ rounds (modeOf mode) D S ∷ [])
+      × (one (eqb (mark (modeOf mode) D S (q .demand .state) (q .supply .state)) 0) ∷ keptCount (modeOf mode) D S ∷ rounds (modeOf mode) D S ∷ [] ≡ verdict ∷ kept ∷ highest ∷ [])
   unfolding decideAnswer
-  outcome = passed (decideChecks file q mode (length entry)) _ _ _ (sym (ap decided is) ∙ told)
+  outcome = passed (decideChecks file q mode (length entry)) _ _ _ told
 
   asked : PairAccepted file q
   unfolding decideChecks
@@ -185,32 +182,38 @@ module _ (file : List ℕ) (q : Question) (mode : ℕ) (entry exit : List ℕ) (
   unfolding decideSlice
   written = left ∙ ap (λ (c : Checked). sliceAfter c (overwrite (marks (modeOf mode) D S) entry) entry) (outcome .0)
 
-  tells : Tells (modeOf mode) D S (q .demand .state) (q .supply .state) v exit
+  tells : Tells (modeOf mode) D S (q .demand .state) (q .supply .state) verdict kept highest exit
   tells = record {
     start = (asked-demand file q asked .state, asked-supply file q asked .state);
-    yes = one-same (v .yes) (eqb (mark (modeOf mode) D S (q .demand .state) (q .supply .state)) 0) (ap (λ (l : List ℕ). getD l 0 0) (outcome .1));
-    kept = ap (λ (l : List ℕ). getD l 1 0) (outcome .1);
-    rounds-are = ap (λ (l : List ℕ). getD l 2 0) (outcome .1);
+    yes = sym (ap (λ (l : List ℕ). getD l 0 0) (outcome .1));
+    kept-are = sym (ap (λ (l : List ℕ). getD l 1 0) (outcome .1));
+    rounds-are = sym (ap (λ (l : List ℕ). getD l 2 0) (outcome .1));
     marked = λ u w l k. ap (λ (x : List ℕ). markAt (S .n) x u w) written ∙ marked-entry (modeOf mode) D S entry u w l k;
   }
 
-  pub second-demand : SecondDemand (modeOf mode) D S (q .demand .state) (q .supply .state) v exit
+  pub second-demand : SecondDemand (modeOf mode) D S (q .demand .state) (q .supply .state) verdict highest exit
   second-demand =
-      second (modeOf mode) D S (q .demand .state) (q .supply .state) v exit tells
+      second (modeOf mode) D S (q .demand .state) (q .supply .state) verdict kept highest exit tells
       (table-at-sound file (q .demand .table) (q .demand .state) (asked-demand file q asked))
       (table-at-sound file (q .supply .table) (q .supply .state) (asked-supply file q asked))
 
-  pub third-demand : ThirdDemand (modeOf mode) D S (q .demand .state) (q .supply .state) v exit
-  third-demand = third (modeOf mode) D S (q .demand .state) (q .supply .state) v exit tells
+  pub third-demand : ThirdDemand (modeOf mode) D S (q .demand .state) (q .supply .state) verdict kept exit
+  third-demand = third (modeOf mode) D S (q .demand .state) (q .supply .state) verdict kept highest exit tells
 
   -- for every predicate
-  pub third-demand-all : ThirdDemandAll (modeOf mode) D S (q .demand .state) (q .supply .state) v exit
-  third-demand-all = third-all (modeOf mode) D S (q .demand .state) (q .supply .state) v exit tells
+  pub third-demand-all : ThirdDemandAll (modeOf mode) D S (q .demand .state) (q .supply .state) verdict kept exit
+  third-demand-all = third-all (modeOf mode) D S (q .demand .state) (q .supply .state) verdict kept highest exit tells
 
 -- what Decide ensures, from its answer and the slice
 pub demands : (file : List ℕ) (q : Question) (mode : ℕ) (entry exit : List ℕ) (r : Decided)
     → (decided r ≡ decideAnswer file q mode (length entry)) × (exit ≡ decideSlice file q mode entry)
     → (decided r ≡ decideAnswer file q mode (length entry)) × ((exit ≡ decideSlice file q mode entry)
-    × (((v : Verdict) → r ≡ Answered v → SecondDemand (modeOf mode) (demandOf file q) (supplyOf file q) (q .demand .state) (q .supply .state) v exit)
-    × ((v : Verdict) → r ≡ Answered v → ThirdDemand (modeOf mode) (demandOf file q) (supplyOf file q) (q .demand .state) (q .supply .state) v exit)))
-demands file q mode entry exit r (told, left) = (told, (left, (second-demand file q mode entry exit r told left, third-demand file q mode entry exit r told left)))
+    × (((verdict kept rounds : ℕ) → decided r ≡ carriedOut (verdict ∷ kept ∷ rounds ∷ [])
+    → SecondDemand (modeOf mode) (demandOf file q) (supplyOf file q) (q .demand .state) (q .supply .state) verdict rounds exit)
+    × ((verdict kept rounds : ℕ) → decided r ≡ carriedOut (verdict ∷ kept ∷ rounds ∷ [])
+    → ThirdDemand (modeOf mode) (demandOf file q) (supplyOf file q) (q .demand .state) (q .supply .state) verdict kept exit)))
+demands file q mode entry exit r (told, left) =
+    (told, (left, (
+      λ v k n e. second-demand file q mode entry exit left v k n (sym told ∙ e),
+      λ v k n e. third-demand file q mode entry exit left v k n (sym told ∙ e),
+    )))

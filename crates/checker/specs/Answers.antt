@@ -15,7 +15,7 @@ abbrev pub counted : Counted → Answer
 counted (counts.Count n) = carriedOut (n ∷ [])
 counted (counts.Refused r) = turnedBack r
 
--- the cases of `Decided`: "yes if the start pair ... is marked 0, else no" as 1 and 0, "the count kept", "and rounds"
+-- the cases of `Decided`: "yes" as 1 or "no" as 0, "the count kept", "and rounds"
 abbrev pub decided : Decided → Answer
 decided (decisions.Answered v) = carriedOut (one (v .yes) ∷ v .kept ∷ v .rounds ∷ [])
 decided (decisions.Refused r) = turnedBack r

@@ -1,8 +1,8 @@
--- The second and the third demand of the mission, of what a call of Decide that is carried out answers and leaves: in a mode, for the machines
--- D and S of the two tables and the start pair (t, s), the verdict v, and the slice at exit.
+-- The second and the third demand, of a call of Decide that is carried out: for the machines D and S of the two tables, the start pair (t, s), the
+-- values that are returned (the verdict, 1 for yes and 0 for no; the count kept; rounds), and what the slice holds at exit.
 use Prim.Native.Nat.{ℕ, suc, _≤_, _<_}
 use mathlib.Core.Path.{_≡_}
-use mathlib.Core.Bool.{Bool, true, false, not}
+use mathlib.Core.Bool.{Bool, not}
 use mathlib.Core.List.{List}
 use mathlib.Core.Logic.{_↔_}
 use lib.Dec.{T, eqb}
@@ -13,40 +13,41 @@ use Rattle.rules.specs.Machines.{Machine}
 use Rattle.rules.specs.Relations.{Pairs, Passing, Meets}
 use Rattle.rules.specs.Rounds.{Kept, markAt, countPairs}
 use Rattle.rules.specs.Runs.{Free}
-use Rattle.checker.specs.declared.Verdict.{Verdict}
 
 -- "Marked 0 means kept; the kept set of a carried-out call that writes marks is the pairs of states whose mark it wrote as 0."
 abbrev pub KeptIn : Machine → Machine → List ℕ → Pairs
 KeptIn D S slice u w = (u < D .n) × (w < S .n) × (markAt (S .n) slice u w ≡ 0)
 
--- The third demand, whole: for any set of pairs that a rival writes down, as a test.
-pub record ThirdDemand (mode : Mode) (D S : Machine) (t s : ℕ) (v : Verdict) (slice : List ℕ) : Type 0 where
+-- The third demand, whole. A rival writes a set of pairs down as a test.
+pub record ThirdDemand (mode : Mode) (D S : Machine) (t s verdict kept : ℕ) (slice : List ℕ) : Type 0 where
   -- "if the rival's set meets the definition, each of its pairs is kept in ours"
   pub rivals : (R : ℕ → ℕ → Bool) → Meets mode D S (Passing R) → (u w : ℕ) → T (R u w) → KeptIn D S slice u w
   -- "our kept set meets the definition"
   pub ours : Meets mode D S (KeptIn D S slice)
   -- "the count kept is the number of its pairs"
-  pub count : v .kept ≡ countPairs D S (λ u w. eqb (markAt (S .n) slice u w) 0)
+  pub count : kept ≡ countPairs D S (λ u w. eqb (markAt (S .n) slice u w) 0)
   -- "the start gets a no exactly when no set that meets the definition holds it"
-  pub no-exactly : (v .yes ≡ false) ↔ ((R : ℕ → ℕ → Bool) → Meets mode D S (Passing R) → T (R t s) → ⊥)
+  pub no-exactly : (verdict ≡ 0) ↔ ((R : ℕ → ℕ → Bool) → Meets mode D S (Passing R) → T (R t s) → ⊥)
 
--- The same for every set of pairs at all.
-pub record ThirdDemandAll (mode : Mode) (D S : Machine) (t s : ℕ) (v : Verdict) (slice : List ℕ) : Type 1 where
+-- The same where a rival's set is any predicate on pairs.
+pub record ThirdDemandAll (mode : Mode) (D S : Machine) (t s verdict kept : ℕ) (slice : List ℕ) : Type 1 where
   pub rivals : (R : Pairs) → Meets mode D S R → (u w : ℕ) → R u w → KeptIn D S slice u w
   pub ours : Meets mode D S (KeptIn D S slice)
-  pub count : v .kept ≡ countPairs D S (λ u w. eqb (markAt (S .n) slice u w) 0)
-  pub no-exactly : (v .yes ≡ false) ↔ ((R : Pairs) → Meets mode D S R → R t s → ⊥)
+  pub count : kept ≡ countPairs D S (λ u w. eqb (markAt (S .n) slice u w) 0)
+  pub no-exactly : (verdict ≡ 0) ↔ ((R : Pairs) → Meets mode D S R → R t s → ⊥)
 
--- The second demand, of a verdict.
-pub record SecondDemand (mode : Mode) (D S : Machine) (t s : ℕ) (v : Verdict) (slice : List ℕ) : Type 0 where
+-- The second demand, as far as it speaks of Decide. That the moves are those of PADS is said of Moves of a pair (`moves-are-steps`); the run that
+-- a no brings is Run's.
+pub record SecondDemand (mode : Mode) (D S : Machine) (t s verdict rounds : ℕ) (slice : List ℕ) : Type 0 where
   -- "A full yes is said exactly if no run of these moves reaches a stuck pair or an unmet request."
-  pub full-yes : mode ≡ Full → (v .yes ≡ true) ↔ Free D S t s
-  -- "In both modes each struck pair bears the round in which the stepwise definition first loses it": the rounds up to k keep it, the next does not
+  pub full-yes : mode ≡ Full → (verdict ≡ 1) ↔ Free D S t s
+  -- "In both modes each struck pair bears the round in which the stepwise definition first loses it": the rounds up to k keep it, and round
+  -- k + 1 does not
   pub struck : (k u w : ℕ) → u < D .n → w < S .n
       → (markAt (S .n) slice u w ≡ suc k) ↔ (((i : ℕ) → i ≤ k → Kept mode D S i u w) × (Kept mode D S (suc k) u w → ⊥))
-  -- and 0 "if every round does"
+  -- "or 0 if every round does"
   pub kept : (u w : ℕ) → u < D .n → w < S .n → (markAt (S .n) slice u w ≡ 0) ↔ ((k : ℕ) → Kept mode D S k u w)
   -- "rounds, the highest mark written, 0 where all pairs are kept"
-  pub highest : v .rounds ≡ maxBelow (D .n) (λ u. maxBelow (S .n) (λ w. markAt (S .n) slice u w))
+  pub highest : rounds ≡ maxBelow (D .n) (λ u. maxBelow (S .n) (λ w. markAt (S .n) slice u w))
   -- "Rounds never exceed the count of struck pairs."
-  pub few-rounds : v .rounds ≤ countPairs D S (λ u w. not (eqb (markAt (S .n) slice u w) 0))
+  pub few-rounds : rounds ≤ countPairs D S (λ u w. not (eqb (markAt (S .n) slice u w) 0))

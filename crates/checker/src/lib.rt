@@ -1,10 +1,11 @@
 // The calls about a pair of states, as document 01 lists them. Each opens the file, turns back what must be turned back, and has one crate
 // below work out the answer. Nothing is asked of the caller. Relies on `rules` for the meaning, on `tables` for the file, on `moves` for the
 // surviving moves of a pair and on `marks` for the marks of all pairs.
+ghost use Prim.Native.Nat.{ℕ};
 ghost use mathlib.Core.Path.{_≡_};
+ghost use mathlib.Core.List.{[], _∷_};
 ghost use lib.ListN.{length};
-ghost use Rattle.checker.specs.declared.Verdict.{Verdict};
-ghost use Rattle.checker.specs.declared.Decided.the-variants.{Answered};
+ghost use Rattle.tables.specs.Answers.{carriedOut};
 ghost use Rattle.checker.specs.Answers.{counted, decided};
 ghost use Rattle.checker.specs.Pairs.{demandOf, supplyOf};
 ghost use Rattle.checker.specs.Moves.{movesAnswer, movesSlice};
@@ -68,8 +69,8 @@ pub fn moves(file: &[u8], question: Question, out: &mut [u16]) -> Counted
 pub fn decide(file: &[u8], question: Question, mode: usize, marks: &mut [u16]) -> Decided
     ensures answer { λ r. ⌜ decided r ≡ decideAnswer (now (file .entry)) question mode (length (now (marks .entry))) ⌝ }
     ensures slice { λ r. ⌜ now (marks .exit) ≡ decideSlice (now (file .entry)) question mode (now (marks .entry)) ⌝ }
-    ensures second { λ r. ⌜ ((v : Verdict) → r ≡ Answered v → SecondDemand (modeOf mode) (demandOf (now (file .entry)) question) (supplyOf (now (file .entry)) question) (question .demand .state) (question .supply .state) v (now (marks .exit))) ⌝ }
-    ensures third { λ r. ⌜ ((v : Verdict) → r ≡ Answered v → ThirdDemand (modeOf mode) (demandOf (now (file .entry)) question) (supplyOf (now (file .entry)) question) (question .demand .state) (question .supply .state) v (now (marks .exit))) ⌝ }
+    ensures second { λ r. ⌜ ((verdict kept rounds : ℕ) → decided r ≡ carriedOut (verdict ∷ kept ∷ rounds ∷ []) → SecondDemand (modeOf mode) (demandOf (now (file .entry)) question) (supplyOf (now (file .entry)) question) (question .demand .state) (question .supply .state) verdict rounds (now (marks .exit))) ⌝ }
+    ensures third { λ r. ⌜ ((verdict kept rounds : ℕ) → decided r ≡ carriedOut (verdict ∷ kept ∷ rounds ∷ []) → ThirdDemand (modeOf mode) (demandOf (now (file .entry)) question) (supplyOf (now (file .entry)) question) (question .demand .state) (question .supply .state) verdict kept (now (marks .exit))) ⌝ }
 {
     let found = open(file);
     let Opened::Tables(k) = found else {

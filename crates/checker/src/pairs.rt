@@ -10,7 +10,7 @@ use crate::Counted;
 use crate::Decided;
 use crate::Question;
 use crate::Verdict;
-use marks::States;
+use marks::Sizes;
 use moves::rows_of;
 use rules::Mode;
 use tables::Checked;
@@ -85,8 +85,8 @@ pub(crate) fn write_marks(file: &[u8], question: Question, mode: usize, marks: &
     if marks.len() < demand.states as usize * supply.states as usize {
         return Decided::Refused(Refusal::new(14, 0));
     }
-    let states = States { demand: demand.states, supply: supply.states };
-    let summary = marks::write(entry_body(file, demand), entry_body(file, supply), states, mode_of(mode), marks);
+    let sizes = Sizes { demand: demand.states, supply: supply.states };
+    let summary = marks::write(entry_body(file, demand), entry_body(file, supply), sizes, mode_of(mode), marks);
     let start = question.demand.state * supply.states as usize + question.supply.state;
     Decided::Answered(Verdict { yes: marks[start] == 0, kept: summary.kept, rounds: summary.rounds })
 }

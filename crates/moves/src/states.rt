@@ -4,7 +4,7 @@ ghost use Prim.Native.Nat.{_/_, _≤_};
 ghost use lib.ListN.{length};
 ghost use Rattle.rules.specs.Machines.{stateMoves};
 ghost use Rattle.tables.specs.Tables.{rowsOf};
-ghost use Rattle.moves.specs.States.{Sorted, FirstRow, Starts, StateIndexed, stateRows, rowRange, moveAt, movesOf};
+ghost use Rattle.moves.specs.States.{Sorted, firstRow, startsOf, StateIndexed, stateRows, rowRange, moveAt, movesOf};
 use rules::Move;
 use rules::Row;
 use tables::row_at;
@@ -37,7 +37,7 @@ pub fn move_at(body: &[u8], i: usize) -> Move
 // The first row that leaves `state` or a higher one; the count of rows where there is none.
 fn first_row(body: &[u8], state: u16) -> u16
     requires { ⌜ Sorted (now body) ⌝ }
-    ensures { λ r. ⌜ FirstRow (now (body .entry)) state r ⌝ }
+    ensures { λ r. ⌜ r ≡ firstRow (now (body .entry)) state ⌝ }
 {
     let rows = (body.len() / 4) as u16;
     let mut i: u16 = 0;
@@ -51,7 +51,7 @@ fn first_row(body: &[u8], state: u16) -> u16
     rows
 }
 
-// The rows of a state; FIN has its idle row alone. Where a state has no rows, any start is meant.
+// The rows of a state; FIN has its idle row alone. Where a state has no rows, the start says nothing.
 pub fn rows_of(body: &[u8], state: u8) -> Rows
     requires { ⌜ Sorted (now body) ⌝ }
     ensures { λ r. ⌜ movesOf (now (body .entry)) r ≡ stateMoves (rowsOf (now (body .entry)) (length (now (body .entry)) / 4)) state ⌝ }
@@ -64,10 +64,10 @@ pub fn rows_of(body: &[u8], state: u8) -> Rows
     Rows::new(start, end - start)
 }
 
-// An index of a body: at each entry the first row that leaves the state of that number or a higher one.
+// An index of a body: at entry q the first row that leaves the state q or a higher one, the count of rows where there is none.
 pub fn write_starts(body: &[u8], starts: &mut [u16])
     requires { ⌜ Sorted (now body) × (length (now starts) ≤ 65) ⌝ }
-    ensures { λ r. ⌜ (length (now (starts .exit)) ≡ length (now (starts .entry))) × Starts (now (body .entry)) (now (starts .exit)) ⌝ }
+    ensures { λ r. ⌜ now (starts .exit) ≡ startsOf (now (body .entry)) (length (now (starts .entry))) ⌝ }
 {
     let states = starts.len();
     let mut q: usize = 0;

@@ -11,7 +11,7 @@ use Rattle.rules.specs.Sets.{intersection, union, difference, inside, la
 use Rattle.rules.specs.Rows.{rises}
 use Rattle.rules.specs.Machines.{Table, rowMoves, stateMoves, machine}
 use Rattle.rules.specs.Moves.{leftOf, consumedOf, unmetOf, candidates, prunes, survivorsOf, survivors, numbers}
-use Rattle.rules.specs.Rounds.{answered, slotHolds, pairHolds, isPair, keeps, markBy, mark, marks}
+use Rattle.rules.specs.Rounds.{hasResponse, slotHolds, pairHolds, isPair, keeps, markBy, mark, marks}
 use Rattle.rules.specs.Join.{insertRow, inOrder, joinMoves, joinRows, join}
 use Rattle.rules.specs.Examples.{demandE, supplyE, finOnly, demandFifth, demandSixth, thenFin, once, atMostOnce, repeated, twoSlots, examples}
 use Rattle.rules.specs.Examples.{Example, Means, movesAre, marksAre, saysYes, saysNo, joinIs, joinCount, isStuck}
@@ -96,7 +96,7 @@ tested (isStuck A q) h =
     (ltb→lt q (A .n) (and-l (ltb q (A .n)) empty h), empty-list (stateMoves (A .rows) q) (and-r (ltb q (A .n)) empty h))
 
 passed : T (all test examples)
-unfolding examples test sameNumbers sameList sameTable sameRow flatMap demandE supplyE finOnly demandFifth demandSixth thenFin once atMostOnce repeated twoSlots intersection union difference inside larger maximal rises rowMoves stateMoves leftOf consumedOf unmetOf candidates prunes survivorsOf numbers answered slotHolds pairHolds isPair keeps markBy mark marks insertRow inOrder joinMoves joinRows join
+unfolding examples test sameNumbers sameList sameTable sameRow flatMap demandE supplyE finOnly demandFifth demandSixth thenFin once atMostOnce repeated twoSlots intersection union difference inside larger maximal rises rowMoves stateMoves leftOf consumedOf unmetOf candidates prunes survivorsOf numbers hasResponse slotHolds pairHolds isPair keeps markBy mark marks insertRow inOrder joinMoves joinRows join
 passed = tt
 
 -- every example of the table holds

@@ -40,7 +40,7 @@ loop-again : tie.Need-loop-again Inv-loop μ-loop
 loop-again c = (omega arith, next-lower _ _ _ _ (c .before .before .before .before .loop .inv .1) (c .before .before .row-at .ensures) (c .if1 .left))
 
 returns-2 : tie.Need-returns-2 Inv-loop μ-loop
-returns-2 c = first-past _ _ _ (c .before .loop .inv .1) (omega arith)
+returns-2 c = first-past _ _ _ (c .before .before .before .pre) (c .before .loop .inv .1) (omega arith)
 
 pub first-row-spec : {M : Type 1} → statement M
 first-row-spec =

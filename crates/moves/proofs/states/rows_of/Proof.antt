@@ -1,10 +1,7 @@
 -- `moves::states::rows_of` meets its contract. FIN's row is its idle row; another state's rows stand between two first rows.
 use Prim.Native.Nat.{_/_}
-use mathlib.Core.Path.{ap, _∙_}
-use native.Mathlib.Omega.{arith}
 use lib.ListN.{length}
-use Rattle.moves.specs.States.{movesOf}
-use Rattle.moves.proofs.StateLaws.{fin-rows, first-order, state-rows}
+use Rattle.moves.proofs.StateLaws.{fin-rows, rows-order, sorted-rows}
 use borrow.Author.Needs.{needs}
 use Rattle.moves.proofs.states.rows_of.Statement.{statement}
 use Rattle.moves.proofs.states.rows_of.Tie as tie
@@ -25,13 +22,13 @@ first-row-requires-2 : tie.Need-first-row-requires-2
 first-row-requires-2 c κs = search needs
 
 sub-new : tie.Need-sub-new
-sub-new c = first-order _ _ _ _ (c .before .first-row .ensures) (c .first-row2 .ensures)
+sub-new c = rw (c .before .first-row .ensures, c .first-row2 .ensures) (rows-order _ _ (c .before .before .before .before .pre))
 
 new-requires-2 : tie.Need-new-requires-2
 new-requires-2 c κs = search needs
 
 returns-2 : tie.Need-returns-2
-returns-2 c = ap (movesOf _) (c .new2 .ensures) ∙ state-rows _ _ _ _ (c .before .before .before .before .before .pre) (c .before .before .first-row .ensures) (c .before .first-row2 .ensures) (c .before .before .before .if1 .left)
+returns-2 c = rw (c .new2 .ensures, c .before .before .first-row .ensures, c .before .first-row2 .ensures) (sorted-rows _ _ (c .before .before .before .before .before .pre) (c .before .before .before .if1 .left))
 
 pub rows-of-spec : {M : Type 1} → statement M
 rows-of-spec =

@@ -1,6 +1,6 @@
 -- `moves::states::write_starts` meets its contract. The invariant: the entries before q hold the first rows of their states.
 use Prim.Native.Nat.{_-_, _≤_}
-use mathlib.Core.Path.{_≡_, refl, sym, _∙_}
+use mathlib.Core.Path.{_≡_, refl}
 use native.Mathlib.Omega.{arith}
 use lib.ListN.{length, length-set}
 use Rattle.moves.proofs.StateLaws.{StartsTo, starts-none, starts-next, starts-done}
@@ -42,7 +42,7 @@ same-length : tie.Need-same-length Inv-loop μ-loop
 same-length c = c .before .loop .inv .1
 
 returns : tie.Need-returns Inv-loop μ-loop
-returns c = (c .before .loop .inv .1, starts-done (c .before .loop .inv .2) (omega arith))
+returns c = starts-done _ (c .before .loop .inv .2) (c .before .loop .inv .1) (c .loop-test .left)
 
 pub write-starts-spec : {M : Type 1} → statement M
 write-starts-spec =
