@@ -93,10 +93,11 @@ module _ (mode : Mode) (D S : Machine) (t s verdict kept highest : ℕ) (slice :
 
   test-kept : (u w : ℕ) → T (keptTest u w) → KeptIn D S slice u w
   test-kept u w p =
-      let rest = and-r (ltb u (D .n)) (ltb w (S .n) && eqb (markAt (S .n) slice u w) 0) p in
-      (ltb→lt u (D .n) (and-l (ltb u (D .n)) (ltb w (S .n) && eqb (markAt (S .n) slice u w) 0) p),
-      ltb→lt w (S .n) (and-l (ltb w (S .n)) (eqb (markAt (S .n) slice u w) 0) rest),
-      eqb→eq (markAt (S .n) slice u w) 0 (and-r (ltb w (S .n)) (eqb (markAt (S .n) slice u w) 0) rest))
+      let rest = and-r (ltb u (D .n)) (ltb w (S .n) && eqb (markAt (S .n) slice u w) 0) p in (
+        ltb→lt u (D .n) (and-l (ltb u (D .n)) (ltb w (S .n) && eqb (markAt (S .n) slice u w) 0) p),
+        ltb→lt w (S .n) (and-l (ltb w (S .n)) (eqb (markAt (S .n) slice u w) 0) rest),
+        eqb→eq (markAt (S .n) slice u w) 0 (and-r (ltb w (S .n)) (eqb (markAt (S .n) slice u w) 0) rest),
+      )
 
   kept-test : (u w : ℕ) → KeptIn D S slice u w → T (keptTest u w)
   kept-test u w (l, k, e) =
@@ -150,8 +151,11 @@ module _ (mode : Mode) (D S : Machine) (t s verdict kept highest : ℕ) (slice :
       by-runs : mode ≡ Full → (verdict ≡ 1) ↔ Free D S t s
       by-runs e = (
         λ y. kept-free D S sd ss t s (h .start .0) (h .start .1) .0 (subst (λ (m : Mode). mark m D S t s ≡ 0) e (from-kept t s (yes-kept y) .2)),
-        λ f. kept-yes (to-kept t s (h .start .0, h .start .1,
-            subst (λ (m : Mode). mark m D S t s ≡ 0) (sym e) (kept-free D S sd ss t s (h .start .0) (h .start .1) .1 f))),
+        λ f. kept-yes (to-kept t s (
+          h .start .0,
+          h .start .1,
+          subst (λ (m : Mode). mark m D S t s ≡ 0) (sym e) (kept-free D S sd ss t s (h .start .0) (h .start .1) .1 f),
+        )),
       )
 
 -- ---- of a call of Decide
@@ -212,8 +216,13 @@ pub demands : (file : List ℕ) (q : Question) (mode : ℕ) (entry exit : List �
     → SecondDemand (modeOf mode) (demandOf file q) (supplyOf file q) (q .demand .state) (q .supply .state) verdict rounds exit)
     × ((verdict kept rounds : ℕ) → decided r ≡ carriedOut (verdict ∷ kept ∷ rounds ∷ [])
     → ThirdDemand (modeOf mode) (demandOf file q) (supplyOf file q) (q .demand .state) (q .supply .state) verdict kept exit)))
-demands file q mode entry exit r (told, left) =
-    (told, (left, (
+demands file q mode entry exit r (told, left) = (
+  told,
+  (
+    left,
+    (
       λ v k n e. second-demand file q mode entry exit left v k n (sym told ∙ e),
       λ v k n e. third-demand file q mode entry exit left v k n (sym told ∙ e),
-    )))
+    ),
+  ),
+)

@@ -75,7 +75,12 @@ fn mode_of(number: usize) -> Mode
 }
 
 // Writes the marks of all pairs of states where there is room, and reads the start pair's.
-pub(crate) fn write_marks(file: &[u8], question: Question, mode: usize, marks: &mut [u16]) -> Decided
+pub(crate) fn write_marks(
+    file: &[u8],
+    question: Question,
+    mode: usize,
+    marks: &mut [u16],
+) -> Decided
     requires { ⌜ PairAccepted (now file) question × (mode ≤ 1) ⌝ }
     ensures answer { λ r. ⌜ decided r ≡ decideAnswer (now (file .entry)) question mode (length (now (marks .entry))) ⌝ }
     ensures slice { λ r. ⌜ now (marks .exit) ≡ decideSlice (now (file .entry)) question mode (now (marks .entry)) ⌝ }
@@ -85,8 +90,21 @@ pub(crate) fn write_marks(file: &[u8], question: Question, mode: usize, marks: &
     if marks.len() < demand.states as usize * supply.states as usize {
         return Decided::Refused(Refusal::new(14, 0));
     }
-    let sizes = Sizes { demand: demand.states, supply: supply.states };
-    let summary = marks::write(entry_body(file, demand), entry_body(file, supply), sizes, mode_of(mode), marks);
+    let sizes = Sizes {
+        demand: demand.states,
+        supply: supply.states,
+    };
+    let summary = marks::write(
+        entry_body(file, demand),
+        entry_body(file, supply),
+        sizes,
+        mode_of(mode),
+        marks,
+    );
     let start = question.demand.state * supply.states as usize + question.supply.state;
-    Decided::Answered(Verdict { yes: marks[start] == 0, kept: summary.kept, rounds: summary.rounds })
+    Decided::Answered(Verdict {
+        yes: marks[start] == 0,
+        kept: summary.kept,
+        rounds: summary.rounds,
+    })
 }

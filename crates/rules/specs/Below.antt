@@ -14,6 +14,7 @@ module _ {A : Type 0} where
   listsBelow zero f = []
   listsBelow (suc i) f = listsBelow i f ++ f i
 
+-- f 0 + f 1 + .. + f (n - 1)
 abbrev pub sumBelow : ℕ → (ℕ → ℕ) → ℕ
 sumBelow zero f = 0
 sumBelow (suc i) f = sumBelow i f + f i
