@@ -21,6 +21,13 @@ impl Rows {
     {
         Rows { start, count }
     }
+
+    // FIN's idle row, alone.
+    pub fn fin() -> Self
+        ensures { λ r. ⌜ r ≡ rowRange 65535 1 ⌝ }
+    {
+        Rows::new(Row::IDLE, 1)
+    }
 }
 
 // The move of the row with the number i; 65,535 is the number of FIN's idle row.
@@ -57,7 +64,7 @@ pub fn rows_of(body: &[u8], state: u8) -> Rows
     ensures { λ r. ⌜ movesOf (now (body .entry)) r ≡ stateMoves (rowsOf (now (body .entry)) (length (now (body .entry)) / 4)) state ⌝ }
 {
     if state == Row::FIN {
-        return Rows::new(Row::IDLE, 1);
+        return Rows::fin();
     }
     let start = first_row(body, state as u16);
     let end = first_row(body, state as u16 + 1);
@@ -83,7 +90,7 @@ pub fn rows_in(starts: &[u16], state: u8) -> Rows
     ensures { λ r. ⌜ r ≡ stateRows (now (starts .entry)) state ⌝ }
 {
     if state == Row::FIN {
-        return Rows::new(Row::IDLE, 1);
+        return Rows::fin();
     }
     let at = state as usize;
     let start = starts[at];

@@ -1,17 +1,16 @@
 -- `moves::states::rows_in` meets its contract.
-use native.Mathlib.Omega.{arith}
 use borrow.Author.Tests.{eq-eqb, ne-eqb}
 use Rattle.moves.specs.States.{stateRows}
 use borrow.Author.Needs.{needs}
 use Rattle.moves.proofs.states.rows_in.Statement.{statement}
 use Rattle.moves.proofs.states.rows_in.Tie as tie
 
-new-requires : tie.Need-new-requires
-new-requires c κs = search needs
+fin-requires : tie.Need-fin-requires
+fin-requires c κs = search needs
 
 returns : tie.Need-returns
 unfolding stateRows
-returns c = simp (eq-eqb _ _ (c .before .if1 .taken)) (c .new .ensures)
+returns c = simp (eq-eqb _ _ (c .before .if1 .taken)) (c .fin .ensures)
 
 mul-start : tie.Need-mul-start
 mul-start c = search needs
@@ -31,18 +30,18 @@ shared-slice-read-end c = search needs
 sub-new : tie.Need-sub-new
 sub-new c = search needs
 
-new-requires-2 : tie.Need-new-requires-2
-new-requires-2 c κs = search needs
+new-requires : tie.Need-new-requires
+new-requires c κs = search needs
 
 returns-2 : tie.Need-returns-2
 unfolding stateRows
-returns-2 c = simp (ne-eqb _ _ (c .before .before .before .if1 .left)) (c .new2 .ensures)
+returns-2 c = simp (ne-eqb _ _ (c .before .before .before .if1 .left)) (c .new .ensures)
 
 pub rows-in-spec : {M : Type 1} → statement M
 rows-in-spec =
     tie.close
     (tie.spec
-    new-requires
+    fin-requires
     returns
     mul-start
     shared-slice-read-start
@@ -50,5 +49,5 @@ rows-in-spec =
     mul-end
     shared-slice-read-end
     sub-new
-    new-requires-2
+    new-requires
     returns-2)

@@ -1,12 +1,12 @@
--- `checker_test::unchanged` meets its contract. The count is at most the entries looked at.
+-- `checker_test::lines::unchanged` meets its contract. The count is at most the entries looked at.
 use Prim.Native.Nat.{_-_, _+_, _≤_}
 use mathlib.Core.Path.{_≡_, refl}
 use mathlib.Core.Logic.{⊎-elim}
 use native.Mathlib.Omega.{arith}
 use lib.ListN.{length}
 use borrow.Author.Needs.{needs}
-use Rattle.checker_test.proofs.unchanged.Statement.{statement}
-use Rattle.checker_test.proofs.unchanged.Tie as tie
+use Rattle.checker_test.proofs.lines.unchanged.Statement.{statement}
+use Rattle.checker_test.proofs.lines.unchanged.Tie as tie
 
 abbrev Inv-loop : tie.InvT-loop
 Inv-loop out start count₀ i₀ i-end count i = (count ≤ i) × (i-end ≡ length out)

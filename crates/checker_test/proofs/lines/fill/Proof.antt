@@ -1,11 +1,11 @@
--- `checker_test::fill` meets its contract. The slice keeps its length.
+-- `checker_test::lines::fill` meets its contract. The slice keeps its length.
 use Prim.Native.Nat.{_-_, _≤_}
 use mathlib.Core.Path.{_≡_, refl}
 use native.Mathlib.Omega.{arith}
 use lib.ListN.{length, length-set}
 use borrow.Author.Needs.{needs}
-use Rattle.checker_test.proofs.fill.Statement.{statement}
-use Rattle.checker_test.proofs.fill.Tie as tie
+use Rattle.checker_test.proofs.lines.fill.Statement.{statement}
+use Rattle.checker_test.proofs.lines.fill.Tie as tie
 
 abbrev Inv-loop : tie.InvT-loop
 Inv-loop out₀ i₀ i-end out i = (i ≤ i-end) × (i-end ≡ length out₀) × (length out ≡ length out₀)

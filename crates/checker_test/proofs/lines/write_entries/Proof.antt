@@ -1,9 +1,9 @@
--- `checker_test::write_entries` meets its contract. The loop ends.
+-- `checker_test::lines::write_entries` meets its contract. The loop ends.
 use Prim.Native.Nat.{_-_, _≤_}
 use native.Mathlib.Omega.{arith}
 use borrow.Author.Needs.{needs}
-use Rattle.checker_test.proofs.write_entries.Statement.{statement}
-use Rattle.checker_test.proofs.write_entries.Tie as tie
+use Rattle.checker_test.proofs.lines.write_entries.Statement.{statement}
+use Rattle.checker_test.proofs.lines.write_entries.Tie as tie
 
 abbrev Inv-loop : tie.InvT-loop
 Inv-loop out count i₀ i = i ≤ count

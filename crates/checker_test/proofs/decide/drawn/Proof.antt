@@ -1,0 +1,71 @@
+-- `checker_test::decide::drawn` meets its contract. The loop ends.
+use Prim.Native.Nat.{_-_, _≤_}
+use native.Mathlib.Omega.{arith}
+use borrow.Author.Needs.{needs}
+use Rattle.checker_test.proofs.decide.drawn.Statement.{statement}
+use Rattle.checker_test.proofs.decide.drawn.Tie as tie
+
+abbrev Inv-loop : tie.InvT-loop
+Inv-loop demand supply task offer room pairs question mode₀ t9 t10 t11 mode = mode ≤ 2
+
+abbrev μ-loop : tie.MeasureT-loop
+μ-loop demand supply task offer room pairs question mode₀ t9 t10 t11 mode = 2 - mode
+
+pair-requires : tie.Need-pair-requires Inv-loop μ-loop
+pair-requires c κs = search needs
+
+loop-holds : tie.Need-loop-holds Inv-loop μ-loop
+loop-holds c = omega arith
+
+slice-aggregate-field : tie.Need-slice-aggregate-field Inv-loop μ-loop
+slice-aggregate-field c = search needs
+
+field-requires : tie.Need-field-requires Inv-loop μ-loop
+field-requires c κs = search needs
+
+slice-aggregate-field-2 : tie.Need-slice-aggregate-field-2 Inv-loop μ-loop
+slice-aggregate-field-2 c = search needs
+
+field-requires-2 : tie.Need-field-requires-2 Inv-loop μ-loop
+field-requires-2 c κs = search needs
+
+label-requires : tie.Need-label-requires Inv-loop μ-loop
+label-requires c κs = search needs
+
+slice-aggregate-ask : tie.Need-slice-aggregate-ask Inv-loop μ-loop
+slice-aggregate-ask c = search needs
+
+ask-requires : tie.Need-ask-requires Inv-loop μ-loop
+ask-requires c κs = search needs
+
+add-mode : tie.Need-add-mode Inv-loop μ-loop
+add-mode c = omega arith
+
+loop-less : tie.Need-loop-less Inv-loop μ-loop
+loop-less c = omega arith
+
+loop-again : tie.Need-loop-again Inv-loop μ-loop
+loop-again c = omega arith
+
+returns : tie.Need-returns Inv-loop μ-loop
+returns c = search needs
+
+pub drawn-spec : {M : Type 1} → statement M
+drawn-spec =
+    tie.close
+    (tie.spec
+    Inv-loop
+    μ-loop
+    pair-requires
+    loop-holds
+    slice-aggregate-field
+    field-requires
+    slice-aggregate-field-2
+    field-requires-2
+    label-requires
+    slice-aggregate-ask
+    ask-requires
+    add-mode
+    loop-less
+    loop-again
+    returns)

@@ -1,0 +1,264 @@
+// Decide in both modes.
+use crate::DRAWN;
+use crate::EXAMPLE;
+use crate::lines::ENTRIES;
+use crate::lines::field;
+use crate::lines::fill;
+use crate::lines::label;
+use crate::lines::number;
+use crate::lines::pair;
+use crate::lines::unchanged;
+use crate::lines::write_entries;
+use checker::Decided;
+use checker::Question;
+use checker::Verdict;
+
+// More entries than any two tables have pairs.
+const LONG: usize = 4100;
+
+// Lends the first `room` entries of an array.
+fn lend(file: &[u8], question: Question, mode: usize, room: usize, marks: &mut [u16]) -> Decided {
+    if marks.len() < room {
+        return Decided::Answered(Verdict {
+            yes: false,
+            kept: 0,
+            rounds: 0,
+        });
+    }
+    checker::decide(file, question, mode, &mut marks[0..room])
+}
+
+// The verdict, and what it counts.
+fn write_verdict(verdict: Verdict) {
+    if verdict.yes {
+        io::write_all(1, b" yes");
+    } else {
+        io::write_all(1, b" no");
+    }
+    field(b", kept", verdict.kept as usize);
+    field(b", rounds", verdict.rounds as usize);
+}
+
+// The number and the place that turn a call back, and that the array is unchanged.
+fn write_refusal(number: usize, place: usize, left: usize) {
+    field(b" refused", number);
+    field(b" at", place);
+    field(b", unchanged", left);
+    io::write_all(1, b"\n");
+}
+
+// Asks for a decision, and writes the answer, the marks of so many pairs, and how many of the other entries are unchanged.
+fn ask(file: &[u8], question: Question, mode: usize, room: usize, pairs: usize) {
+    let mut marks = [0u16; ENTRIES];
+    fill(&mut marks);
+    match lend(file, question, mode, room, &mut marks) {
+        Decided::Answered(verdict) => {
+            write_verdict(verdict);
+            write_entries(&marks, pairs);
+            field(b", unchanged", unchanged(&marks, pairs));
+            io::write_all(1, b"\n");
+        }
+        Decided::Refused(refusal) => {
+            write_refusal(refusal.number as usize, refusal.place, unchanged(&marks, 0));
+        }
+    }
+}
+
+// A question about the first `len` bytes of E, which has 12 pairs.
+fn example(
+    len: usize,
+    demand: usize,
+    supply: usize,
+    task: usize,
+    offer: usize,
+    mode: usize,
+    room: usize,
+) {
+    let question = pair(demand, supply, task, offer);
+    field(b"E", len);
+    field(b", mode", mode);
+    label(question, room);
+    if len <= 38 {
+        ask(&EXAMPLE[0..len], question, mode, room, 12);
+    }
+}
+
+// A question about the drawn tables, in both modes.
+fn drawn(demand: usize, supply: usize, task: usize, offer: usize, room: usize, pairs: usize) {
+    let question = pair(demand, supply, task, offer);
+    for mode in 0..2 {
+        field(b"F", DRAWN.len());
+        field(b", mode", mode);
+        label(question, room);
+        ask(&DRAWN, question, mode, room, pairs);
+    }
+}
+
+// Every start pair of E, with exactly enough room and one entry less.
+fn starts(mode: usize) {
+    for task in 0..4 {
+        for offer in 0..3 {
+            example(38, 0, 1, task, offer, mode, 12);
+            example(38, 0, 1, task, offer, mode, 11);
+        }
+    }
+}
+
+// More room than the pairs need, and none.
+fn rooms() {
+    example(38, 0, 1, 1, 1, 0, 13);
+    example(38, 0, 1, 1, 1, 1, 64);
+    example(38, 0, 1, 1, 1, 0, 0);
+}
+
+// Open's 1 and 7 handed on, each of 11, 12, 13 and 15, and the first of several.
+fn refusals() {
+    example(37, 0, 1, 1, 1, 0, 12);
+    example(1, 9, 9, 9, 9, 9, 0);
+    example(38, 2, 1, 1, 1, 0, 12);
+    example(38, 0, 2, 1, 1, 0, 12);
+    example(38, 1, 2, 9, 9, 9, 0);
+    example(38, 1, 1, 1, 1, 0, 12);
+    example(38, 0, 0, 1, 1, 0, 12);
+    example(38, 1, 1, 9, 9, 9, 0);
+    example(38, 0, 1, 4, 1, 0, 12);
+    example(38, 0, 1, 1, 3, 0, 12);
+    example(38, 0, 1, 4, 3, 9, 0);
+    example(38, 0, 1, 1, 1, 2, 12);
+    example(38, 0, 1, 1, 1, 2, 11);
+    example(38, 0, 1, 1, 1, 18446744073709551615, 64);
+    example(38, 0, 1, 1, 1, 256, 12);
+}
+
+// FIN only, the fifth and sixth examples, stuck states on either side, requests that are partly met.
+fn edges() {
+    drawn(0, 1, 0, 0, 1, 1);
+    drawn(0, 1, 0, 0, 0, 1);
+    drawn(2, 4, 1, 1, 6, 6);
+    drawn(2, 4, 1, 1, 5, 6);
+    drawn(3, 5, 1, 1, 6, 6);
+    drawn(3, 4, 1, 1, 6, 6);
+    drawn(6, 7, 1, 1, 16, 16);
+    drawn(6, 7, 2, 1, 16, 16);
+    drawn(6, 7, 3, 2, 16, 16);
+    drawn(6, 7, 1, 3, 17, 16);
+    drawn(8, 9, 1, 1, 4, 4);
+    drawn(8, 1, 0, 0, 2, 2);
+    drawn(7, 6, 1, 1, 64, 16);
+}
+
+fn put(file: &mut [u8], at: usize, byte: u8) {
+    if at < file.len() {
+        file[at] = byte;
+    }
+}
+
+// The entry of a table of a cycle: FIN and `states` more, a row each.
+fn put_entry(file: &mut [u8], at: u16, kind: u8, states: u8, body: u16) {
+    let entry = at as usize;
+    put(file, entry, kind);
+    put(file, entry + 1, states % 64 + 1);
+    put(file, entry + 2, states);
+    put(file, entry + 4, (body % 256) as u8);
+    put(file, entry + 5, (body / 256) as u8);
+}
+
+fn put_row(file: &mut [u8], at: usize, from: u8, target: u8, set: u8) {
+    if at < 65536 {
+        put(file, at, from);
+        put(file, at + 1, target);
+        put(file, at + 2, set);
+    }
+}
+
+// One of two bytes.
+fn choose(is_last: bool, last: u8, usual: u8) -> u8 {
+    if is_last {
+        return last;
+    }
+    usual
+}
+
+// The rows of a cycle: each state to the next with the set `usual`, the last to the first with the set `last`.
+fn put_cycle(file: &mut [u8], body: u16, states: u8, usual: u8, last: u8) {
+    for i in 0..states {
+        let from = i % 64 + 1;
+        let target = choose(from == states, 1, from + 1);
+        let set = choose(from == states, last, usual);
+        put_row(file, body as usize + 4 * i as usize, from, target, set);
+    }
+}
+
+// Two cycles, of so many task and supply states. Only where both are last, the request {0, 1} meets the grant {0}; so the pairs fall one
+// after the other.
+fn put_cycles(file: &mut [u8], tasks: u8, offers: u8) {
+    let second = 14 + 4 * tasks as u16;
+    put(file, 0, 2);
+    put_entry(file, 2, 1, tasks, 14);
+    put_entry(file, 8, 2, offers, second);
+    put_cycle(file, 14, tasks, 1, 3);
+    put_cycle(file, second, offers, 3, 1);
+}
+
+// A number that each mark changes.
+fn mixed(sum: usize, mark: u16) -> usize {
+    (sum % 65521 * 31 + mark as usize) % 65521
+}
+
+// The same of the first entries, in their order.
+fn digest(marks: &[u16], count: usize) -> usize {
+    let mut sum: usize = 0;
+    for i in 0..count {
+        if i < marks.len() {
+            sum = mixed(sum, marks[i]);
+        }
+    }
+    sum
+}
+
+// Decides two cycles with so many pairs from states 1, in an array of many entries, and writes the answer, the first marks, a digest of all,
+// and how many of the entries past them are unchanged.
+fn cycles(tasks: u8, offers: u8, mode: usize, pairs: usize, shown: usize) {
+    let mut file = [0u8; 514];
+    let mut marks = [0u16; LONG];
+    put_cycles(&mut file, tasks, offers);
+    fill(&mut marks);
+    let len = 14 + 4 * tasks as usize + 4 * offers as usize;
+    field(b"cycles", tasks as usize);
+    number(offers as usize);
+    field(b", mode", mode);
+    io::write_all(1, b":");
+    if len <= 514 {
+        match checker::decide(&file[0..len], pair(0, 1, 1, 1), mode, &mut marks) {
+            Decided::Answered(verdict) => {
+                write_verdict(verdict);
+                write_entries(&marks, shown);
+                field(b", digest", digest(&marks, pairs));
+                field(b", unchanged", unchanged(&marks, pairs));
+                io::write_all(1, b"\n");
+            }
+            Decided::Refused(refusal) => {
+                write_refusal(refusal.number as usize, refusal.place, unchanged(&marks, 0));
+            }
+        }
+    }
+}
+
+// Short ones, and as many rounds as two tables can have.
+fn chains() {
+    for mode in 0..2 {
+        cycles(1, 1, mode, 4, 4);
+        cycles(2, 3, mode, 12, 12);
+        cycles(3, 2, mode, 12, 12);
+        cycles(63, 62, mode, 4032, 0);
+    }
+}
+
+pub(crate) fn run() {
+    starts(0);
+    starts(1);
+    rooms();
+    refusals();
+    edges();
+    chains();
+}
