@@ -16,7 +16,7 @@ use Rattle.checker.specs.declared.Question.{Question}
 use Rattle.checker.specs.Answers.{sliceAfter}
 use Rattle.checker.specs.Pairs.{pairChecks, demandOf, supplyOf}
 
--- "a mode, 0 full or 1 partial"
+-- "a mode, 0 full or 1 partial"; another number is turned back, and what it gives here means nothing
 unfoldable pub modeOf : ℕ → Mode
 modeOf m = cond (eqb m 0) Full Partial
 

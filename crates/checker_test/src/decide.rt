@@ -1,4 +1,5 @@
 // Decide in both modes.
+use crate::CHOICES;
 use crate::DRAWN;
 use crate::EXAMPLE;
 use crate::lines::ENTRIES;
@@ -39,7 +40,7 @@ fn write_verdict(verdict: Verdict) {
     field(b", rounds", verdict.rounds as usize);
 }
 
-// The number and the place that turn a call back, and that the array is unchanged.
+// The number and the place that turn a call back, and how many entries are unchanged.
 fn write_refusal(number: usize, place: usize, left: usize) {
     field(b" refused", number);
     field(b" at", place);
@@ -94,13 +95,27 @@ fn drawn(demand: usize, supply: usize, task: usize, offer: usize, room: usize, p
     }
 }
 
-// Every start pair of E, with exactly enough room and one entry less.
+// Every start pair of E with a task state, with exactly enough room and one entry less.
+fn offers(mode: usize, task: usize) {
+    for offer in 0..3 {
+        example(38, 0, 1, task, offer, mode, 12);
+        example(38, 0, 1, task, offer, mode, 11);
+    }
+}
+
 fn starts(mode: usize) {
     for task in 0..4 {
-        for offer in 0..3 {
-            example(38, 0, 1, task, offer, mode, 12);
-            example(38, 0, 1, task, offer, mode, 11);
-        }
+        offers(mode, task);
+    }
+}
+
+// Two choices of which one fails later: no in full mode, yes in partial mode, by other marks and in fewer rounds.
+fn choices() {
+    for mode in 0..2 {
+        field(b"G", CHOICES.len());
+        field(b", mode", mode);
+        label(pair(0, 1, 1, 1), 6);
+        ask(&CHOICES, pair(0, 1, 1, 1), mode, 6, 6);
     }
 }
 
@@ -130,7 +145,7 @@ fn refusals() {
     example(38, 0, 1, 1, 1, 256, 12);
 }
 
-// FIN only, the fifth and sixth examples, stuck states on either side, requests that are partly met.
+// FIN only, the fifth and sixth examples, stuck states on either side, requests that are partly met, the two kinds exchanged.
 fn edges() {
     drawn(0, 1, 0, 0, 1, 1);
     drawn(0, 1, 0, 0, 0, 1);
@@ -189,8 +204,8 @@ fn put_cycle(file: &mut [u8], body: u16, states: u8, usual: u8, last: u8) {
     }
 }
 
-// Two cycles, of so many task and supply states. Only where both are last, the request {0, 1} meets the grant {0}; so the pairs fall one
-// after the other.
+// Two cycles, of so many task and supply states. Of the pairs above FIN only the two last ones have a request, {0, 1}, that the grant, {0}, does
+// not meet; the others fall one after the other.
 fn put_cycles(file: &mut [u8], tasks: u8, offers: u8) {
     let second = 14 + 4 * tasks as u16;
     put(file, 0, 2);
@@ -200,12 +215,12 @@ fn put_cycles(file: &mut [u8], tasks: u8, offers: u8) {
     put_cycle(file, second, offers, 3, 1);
 }
 
-// A number that each mark changes.
+// One step of a digest: the sum so far, and the next mark.
 fn mixed(sum: usize, mark: u16) -> usize {
     (sum % 65521 * 31 + mark as usize) % 65521
 }
 
-// The same of the first entries, in their order.
+// A digest of the first entries, in their order.
 fn digest(marks: &[u16], count: usize) -> usize {
     let mut sum: usize = 0;
     for i in 0..count {
@@ -219,7 +234,7 @@ fn digest(marks: &[u16], count: usize) -> usize {
 // Decides two cycles with so many pairs from states 1, in an array of many entries, and writes the answer, the first marks, a digest of all,
 // and how many of the entries past them are unchanged.
 fn cycles(tasks: u8, offers: u8, mode: usize, pairs: usize, shown: usize) {
-    let mut file = [0u8; 514];
+    let mut file = [0u8; 518];
     let mut marks = [0u16; LONG];
     put_cycles(&mut file, tasks, offers);
     fill(&mut marks);
@@ -228,7 +243,7 @@ fn cycles(tasks: u8, offers: u8, mode: usize, pairs: usize, shown: usize) {
     number(offers as usize);
     field(b", mode", mode);
     io::write_all(1, b":");
-    if len <= 514 {
+    if len <= 518 {
         match checker::decide(&file[0..len], pair(0, 1, 1, 1), mode, &mut marks) {
             Decided::Answered(verdict) => {
                 write_verdict(verdict);
@@ -244,13 +259,14 @@ fn cycles(tasks: u8, offers: u8, mode: usize, pairs: usize, shown: usize) {
     }
 }
 
-// Short ones, and as many rounds as two tables can have.
+// Short ones, one of 3,906 rounds, and one with as many pairs as two tables can have.
 fn chains() {
     for mode in 0..2 {
         cycles(1, 1, mode, 4, 4);
         cycles(2, 3, mode, 12, 12);
         cycles(3, 2, mode, 12, 12);
         cycles(63, 62, mode, 4032, 0);
+        cycles(63, 63, mode, 4096, 0);
     }
 }
 
@@ -260,5 +276,6 @@ pub(crate) fn run() {
     rooms();
     refusals();
     edges();
+    choices();
     chains();
 }

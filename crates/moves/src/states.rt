@@ -1,4 +1,4 @@
-// The moves of a state of a table: where its rows lie in the body, and the move that each gives.
+// The moves of a state of a table: where its rows lie in the body, the move that each gives, and an index of a body.
 ghost use mathlib.Core.Path.{_≡_};
 ghost use Prim.Native.Nat.{_/_, _≤_};
 ghost use lib.ListN.{length};

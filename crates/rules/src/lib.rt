@@ -1,4 +1,4 @@
-// The vocabulary of tables: rows, moves, the limits, and the operations on sets of resources; and the meaning of it all.
+// The vocabulary of tables: rows, moves, the two modes, the limits, and the operations on sets of resources; and the meaning of it all.
 // Specs: sets of any width, machines, PADS, the surviving moves of a pair, the two relations, rounds and marks, runs, joins, and the worked
 // examples. Their theorems stand in proofs/. Relies on nothing.
 ghost use mathlib.Core.Path.{_≡_};
@@ -20,7 +20,7 @@ impl Limits {
     pub const BYTES: usize = 32866;
 }
 
-// What is asked of the maximal responses to a supply move: full, every one leads to a kept pair; partial, some one does.
+// What is asked of the maximal responses to a supply move: full, every one leads to a kept pair; partial, at least one does.
 pub enum Mode {
     Full,
     Partial,

@@ -26,6 +26,9 @@ cycles-requires-3 c κs = search needs
 cycles-requires-4 : tie.Need-cycles-requires-4 Inv-loop μ-loop
 cycles-requires-4 c κs = search needs
 
+cycles-requires-5 : tie.Need-cycles-requires-5 Inv-loop μ-loop
+cycles-requires-5 c κs = search needs
+
 add-mode : tie.Need-add-mode Inv-loop μ-loop
 add-mode c = omega arith
 
@@ -49,6 +52,7 @@ chains-spec =
     cycles-requires-2
     cycles-requires-3
     cycles-requires-4
+    cycles-requires-5
     add-mode
     loop-less
     loop-again
