@@ -12,4 +12,5 @@ pub mod RelationLaws
 pub mod RoundLaws
 pub mod MarkLaws
 pub mod RunLaws
+pub mod StepLaws
 pub mod ExampleLaws

@@ -1,12 +1,12 @@
--- Laws of lists: what `any`, `all` and `keepIf` mean, and how they and `flatMap` go over elements and over lists end to end. Relies on nothing.
+-- Laws of lists: what `any`, `all`, `first` and `keepIf` mean, and how they and `flatMap` go over elements and over lists end to end. Relies on nothing.
 use Prim.Native.Nat.{ℕ, zero, suc, _+_}
 use mathlib.Core.Path.{_≡_, refl, sym, ap, ap₂, _∙_, subst}
-use mathlib.Core.Bool.{Bool, true, false, not, _&&_, _||_}
+use mathlib.Core.Bool.{Bool, true, false, not, cond, _&&_, _||_}
 use mathlib.Core.List.{List, [], _∷_, _++_, map, flatMap, append-assoc, List·Memᴰ, List·Memᴰ·head, List·Memᴰ·tail, List·Memᴰ·not-nil, List·Memᴰ·cases-cons, List·Memᴰ·append-cases, Memᴰ·append-left, Memᴰ·append-right}
 use mathlib.Core.Logic.{_⊎_, inl, inr}
 use lib.Dec.{T}
-use Rattle.rules.specs.Lists.{any, all, isEmpty, consIf, keepIf, Pairwise}
-use Rattle.rules.proofs.Booleans.{T-or, and-i, and-l, and-r, or-l, or-r, or-cases, or-assoc, and-assoc}
+use Rattle.rules.specs.Lists.{any, all, first, isEmpty, consIf, keepIf, Pairwise}
+use Rattle.rules.proofs.Booleans.{T-or, T-true, T-false, or-false-l, or-false-r, and-i, and-l, and-r, or-l, or-r, or-cases, or-assoc, and-assoc}
 
 -- ---- tests
 
@@ -39,6 +39,15 @@ module _ {A : Type 0} (p : A → Bool) where
   all-append [] r = refl
   all-append (x ∷ xs) r = ap (λ (b : Bool). p x && b) (all-append xs r) ∙ sym (and-assoc (p x) (all p xs) (all p r))
 
+  -- where all do not pass, some one does not
+  pub all-fails : (l : List A) → (T (all p l) → ⊥) → (x : A) × List·Memᴰ x l × (T (p x) → ⊥)
+  all-fails [] f = absurd (f tt)
+  all-fails (x ∷ xs) f = go (T-or (p x)) (all-fails xs)
+    where
+      go : T (p x) ⊎ (T (p x) → ⊥) → ((T (all p xs) → ⊥) → (y : A) × List·Memᴰ y xs × (T (p y) → ⊥)) → (y : A) × List·Memᴰ y (x ∷ xs) × (T (p y) → ⊥)
+      go (inl h) more = let (y, m, n) = more (λ k. f (and-i (p x) (all p xs) h k)) in (y, List·Memᴰ·tail m, n)
+      go (inr n) more = (x, List·Memᴰ·head refl, n)
+
 module _ {A : Type 0} where
   pub some-element : (l : List A) → T (not (isEmpty l)) → (x : A) × List·Memᴰ x l
   some-element [] t = absurd t
@@ -47,6 +56,52 @@ module _ {A : Type 0} where
   pub element-some : {l : List A} {x : A} → List·Memᴰ x l → T (not (isEmpty l))
   element-some (List·Memᴰ·head e) = tt
   element-some (List·Memᴰ·tail m) = tt
+
+-- ---- the first element that passes
+
+module _ {A : Type 0} (p : A → Bool) (other : A) where
+  first-hit : (x : A) (xs : List A) → T (p x) → first p other (x ∷ xs) ≡ x
+  first-hit x xs h = ap (λ (b : Bool). cond b x (first p other xs)) (T-true (p x) h)
+
+  first-miss : (x : A) (xs : List A) → (T (p x) → ⊥) → first p other (x ∷ xs) ≡ first p other xs
+  first-miss x xs n = ap (λ (b : Bool). cond b x (first p other xs)) (T-false (p x) n)
+
+  -- where some element passes, the first is one of them
+  pub first-passes : (l : List A) → T (any p l) → List·Memᴰ (first p other l) l × T (p (first p other l))
+  first-passes [] t = absurd t
+  first-passes (x ∷ xs) t = go (T-or (p x)) (or-cases (p x) (any p xs) t) (first-passes xs)
+    where
+      go : T (p x) ⊎ (T (p x) → ⊥) → T (p x) ⊎ T (any p xs) → (T (any p xs) → List·Memᴰ (first p other xs) xs × T (p (first p other xs)))
+          → List·Memᴰ (first p other (x ∷ xs)) (x ∷ xs) × T (p (first p other (x ∷ xs)))
+      go (inl h) d more = (List·Memᴰ·head (first-hit x xs h), subst (λ (z : A). T (p z)) (sym (first-hit x xs h)) h)
+      go (inr n) (inl h) more = absurd (n h)
+      go (inr n) (inr h) more = (
+        List·Memᴰ·tail (subst (λ (z : A). List·Memᴰ z xs) (sym (first-miss x xs n)) (more h .0)),
+        subst (λ (z : A). T (p z)) (sym (first-miss x xs n)) (more h .1),
+      )
+
+  -- and in a list in order no element that passes comes before it
+  pub first-least : (R : A → A → Type 0) → ((x y : A) → R x y → R y x → ⊥) → (l : List A) → Pairwise R l → (x : A) → List·Memᴰ x l → T (p x) → R x (first p other l) → ⊥
+  first-least R asym [] o x m h r = absurd (List·Memᴰ·not-nil m)
+  first-least R asym (y ∷ ys) o x m h r = go (T-or (p y)) (List·Memᴰ·cases-cons m) (first-least R asym ys (o .1) x)
+    where
+      go : T (p y) ⊎ (T (p y) → ⊥) → (x ≡ y) ⊎ List·Memᴰ x ys → (List·Memᴰ x ys → T (p x) → R x (first p other ys) → ⊥) → ⊥
+      go (inl k) (inl e) more = let z : R x x = subst (R x) (first-hit y ys k ∙ sym e) r in asym x x z z
+      go (inl k) (inr n) more = asym x y (subst (R x) (first-hit y ys k) r) (o .0 x n)
+      go (inr n) (inl e) more = n (subst (λ (z : A). T (p z)) e h)
+      go (inr n) (inr k) more = more k h (subst (R x) (first-miss y ys n) r)
+
+  -- where none passes, it is the other
+  pub first-none : (l : List A) → any p l ≡ false → first p other l ≡ other
+  first-none [] e = refl
+  first-none (x ∷ xs) e =
+      ap (λ (b : Bool). cond b x (first p other xs)) (or-false-l (p x) (any p xs) e) ∙ first-none xs (or-false-r (p x) (any p xs) e)
+
+  -- elements that do not pass are passed over
+  pub first-append : (l r : List A) → any p l ≡ false → first p other (l ++ r) ≡ first p other r
+  first-append [] r e = refl
+  first-append (x ∷ xs) r e =
+      ap (λ (b : Bool). cond b x (first p other (xs ++ r))) (or-false-l (p x) (any p xs) e) ∙ first-append xs r (or-false-r (p x) (any p xs) e)
 
 -- ---- the elements that pass
 
@@ -98,6 +153,10 @@ module _ {A : Type 0} (p q : A → Bool) where
   pub any-cong : (l : List A) → ((x : A) → List·Memᴰ x l → p x ≡ q x) → any p l ≡ any q l
   any-cong [] f = refl
   any-cong (x ∷ xs) f = ap₂ (λ (a b : Bool). a || b) (f x (List·Memᴰ·head refl)) (any-cong xs (λ y m. f y (List·Memᴰ·tail m)))
+
+  pub first-cong : (other : A) (l : List A) → ((x : A) → List·Memᴰ x l → p x ≡ q x) → first p other l ≡ first q other l
+  first-cong other [] f = refl
+  first-cong other (x ∷ xs) f = ap₂ (λ (b : Bool) (z : A). cond b x z) (f x (List·Memᴰ·head refl)) (first-cong other xs (λ y m. f y (List·Memᴰ·tail m)))
 
   pub keepIf-cong : (l : List A) → ((x : A) → List·Memᴰ x l → p x ≡ q x) → keepIf p l ≡ keepIf q l
   keepIf-cong [] f = refl

@@ -9,5 +9,6 @@ pub mod Moves
 pub mod Relations
 pub mod Rounds
 pub mod Runs
+pub mod Steps
 pub mod Join
 pub mod Examples

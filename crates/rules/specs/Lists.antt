@@ -1,5 +1,5 @@
 -- Tests on lists.
-use mathlib.Core.Bool.{Bool, true, false, _&&_, _||_}
+use mathlib.Core.Bool.{Bool, true, false, cond, _&&_, _||_}
 use mathlib.Core.List.{List, [], _∷_, List·Memᴰ}
 
 module _ {A : Type 0} where
@@ -12,6 +12,11 @@ module _ {A : Type 0} where
   abbrev pub all : (A → Bool) → List A → Bool
   all p [] = true
   all p (x ∷ xs) = p x && all p xs
+
+  -- the first element at which p passes, or another where there is none
+  abbrev pub first : (A → Bool) → A → List A → A
+  first p other [] = other
+  first p other (x ∷ xs) = cond (p x) x (first p other xs)
 
   abbrev pub isEmpty : List A → Bool
   isEmpty [] = true

@@ -15,6 +15,10 @@ move number set target = record { row = number; set = set; target = target }
 abbrev pub idle : Move
 idle = move 65535 0 0
 
+-- 01, 'Operations' (Run): what stands for a row where there is none has the number "65,534". The rest of it means nothing.
+abbrev pub noMove : Move
+noMove = move 65534 0 0
+
 -- a is below b, or they are equal and the rest decides
 abbrev pub before : ℕ → ℕ → Bool → Bool
 before a b rest = ltb a b || (eqb a b && rest)

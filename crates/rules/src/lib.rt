@@ -3,7 +3,7 @@
 // examples. Their theorems stand in proofs/. Relies on nothing.
 ghost use mathlib.Core.Path.{_≡_};
 ghost use Rattle.rules.specs.Sets.{difference, left, consumed, unmet, inside, larger};
-ghost use Rattle.rules.specs.Rows.{row, move, idle, rises};
+ghost use Rattle.rules.specs.Rows.{row, move, idle, noMove, rises};
 
 // The limits of document 01: resources in a set, states and rows of a table, tables and bytes of a file.
 pub struct Limits {}
@@ -40,7 +40,7 @@ impl Row {
     // The number of FIN's idle row.
     pub const IDLE: u16 = 65535;
 
-    // The number that stands for a row where no row responds.
+    // The number that stands for a row where there is none: no task row responds, or the supply is stuck.
     pub const NO_RESPONSE: u16 = 65534;
 
     pub fn new(from: u8, target: u8, set: u16) -> Self
@@ -82,6 +82,13 @@ impl Move {
         ensures { λ r. ⌜ r ≡ idle ⌝ }
     {
         Move::new(Row::IDLE, 0, Row::FIN)
+    }
+
+    // What stands for a move where there is none. Its set and its target mean nothing.
+    pub fn none() -> Self
+        ensures { λ r. ⌜ r ≡ noMove ⌝ }
+    {
+        Move::new(Row::NO_RESPONSE, 0, Row::FIN)
     }
 }
 
