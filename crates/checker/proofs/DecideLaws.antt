@@ -64,7 +64,7 @@ module _ (s : List ℕ) (q : Question) (mode : ℕ) where
             let short : room < demandOf s q .n * supplyOf s q .n = omega (arith, pairs-are) in
             rw (asked-checks s q a, le-ltb 1 mode known, lt-ltb room (demandOf s q .n * supplyOf s q .n) short) refl
 
-        none-fault : (room : ℕ) → d .states * u .states ≤ room → decideChecks s q mode room ≡ Passed
+        pub none-fault : (room : ℕ) → d .states * u .states ≤ room → decideChecks s q mode room ≡ Passed
         unfolding decideChecks _then_ fault
         none-fault room l =
             let long : demandOf s q .n * supplyOf s q .n ≤ room = omega (arith, pairs-are) in
@@ -85,10 +85,10 @@ module _ (s : List ℕ) (q : Question) (mode : ℕ) where
             supply-sound = machine-sound s (q .supply .table) (q .supply .state) (asked-supply s q a) u f g piece;
           }
 
-          demand-is : demandIn b sizes ≡ demandOf s q
+          pub demand-is : demandIn b sizes ≡ demandOf s q
           demand-is = body-machine s (q .demand .table) (q .demand .state) (asked-demand s q a) d e b part
 
-          supply-is : supplyIn g sizes ≡ supplyOf s q
+          pub supply-is : supplyIn g sizes ≡ supplyOf s q
           supply-is = body-machine s (q .supply .table) (q .supply .state) (asked-supply s q a) u f g piece
 
           -- the start pair's entry is one of the marks

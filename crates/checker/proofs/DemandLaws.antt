@@ -161,7 +161,7 @@ module _ (mode : Mode) (D S : Machine) (t s verdict kept highest : ℕ) (slice :
 -- ---- of a call of Decide
 
 -- a call that returns values passed its checks
-passed : (c : Checked) (x : ℕ) (xs values : List ℕ) → answer c values ≡ carriedOut (x ∷ xs) → (c ≡ Passed) × (values ≡ x ∷ xs)
+pub passed : (c : Checked) (x : ℕ) (xs values : List ℕ) → answer c values ≡ carriedOut (x ∷ xs) → (c ≡ Passed) × (values ≡ x ∷ xs)
 passed Passed x xs values e = (refl, ap (λ (a : Answer). a .values) e)
 passed (Fault r) x xs values e = let none : 0 ≡ suc (length xs) = ap (λ (a : Answer). length (a .values)) e in absurd (omega arith)
 

@@ -2,3 +2,4 @@ pub mod PairLaws
 pub mod MovesLaws
 pub mod DecideLaws
 pub mod DemandLaws
+pub mod RunLaws

@@ -102,6 +102,9 @@ module _ (s : List ℕ) (i q : ℕ) (t : TableAt s i q) (e : Entry) (read : e �
   pub states-few : e .states ≤ 64
   states-few = subst (λ (x : Entry). x .states ≤ 64) (sym read) (t .table .few-states)
 
+  pub state-below : q < e .states
+  state-below = subst (λ (x : Entry). q < x .states) (sym read) (t .state)
+
   pub state-narrow : q < 256
   state-narrow = let h : q < entryOf s i .states = t .state in let few : entryOf s i .states ≤ 64 = t .table .few-states in omega arith
 

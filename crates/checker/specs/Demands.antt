@@ -1,18 +1,22 @@
--- The second and the third demand, of a call of Decide that is carried out: for the machines D and S of the two tables, the start pair (t, s), the
--- values that are returned (the verdict, 1 for yes and 0 for no; the count kept; rounds), and what the slice holds at exit.
-use Prim.Native.Nat.{ℕ, suc, _≤_, _<_}
+-- The second and the third demand, of a call of Decide or Run that is carried out: for the machines D and S of the two tables, the start pair
+-- (t, s), the values that are returned (the verdict, 1 for yes and 0 for no; the count kept; rounds; the count of steps), and what the slices
+-- hold at exit.
+use Prim.Native.Nat.{ℕ, suc, _*_, _≤_, _<_}
 use mathlib.Core.Path.{_≡_}
 use mathlib.Core.Bool.{Bool, not}
-use mathlib.Core.List.{List}
+use mathlib.Core.List.{List, flatMap}
 use mathlib.Core.Logic.{_↔_}
 use lib.Dec.{T, eqb}
+use lib.ListN.{length, take}
 use Rattle.rules.specs.declared.Mode.{Mode}
 use Rattle.rules.specs.declared.Mode.the-variants.{Full}
 use Rattle.rules.specs.Below.{maxBelow}
 use Rattle.rules.specs.Machines.{Machine}
+use Rattle.rules.specs.Moves.{Candidate}
 use Rattle.rules.specs.Relations.{Pairs, Passing, Meets}
-use Rattle.rules.specs.Rounds.{Kept, markAt, countPairs}
+use Rattle.rules.specs.Rounds.{Kept, mark, markAt, countPairs}
 use Rattle.rules.specs.Runs.{Free}
+use Rattle.rules.specs.Steps.{IsRun, EndsBlocked, stepRows}
 
 -- "Marked 0 means kept; the kept set of a carried-out call that writes marks is the pairs of states whose mark it wrote as 0."
 abbrev pub KeptIn : Machine → Machine → List ℕ → Pairs
@@ -51,3 +55,18 @@ pub record SecondDemand (mode : Mode) (D S : Machine) (t s verdict rounds : ℕ)
   pub highest : rounds ≡ maxBelow (D .n) (λ u. maxBelow (S .n) (λ w. markAt (S .n) slice u w))
   -- "Rounds never exceed the count of struck pairs."
   pub few-rounds : rounds ≤ countPairs D S (λ u w. not (eqb (markAt (S .n) slice u w) 0))
+
+-- The second demand, as far as it speaks of Run: "and a no brings a run of that many slots."
+pub record RunDemand (mode : Mode) (D S : Machine) (t s count : ℕ) (marks steps : List ℕ) : Type 0 where
+  -- the slots of the run; "A step is supply row, task row."
+  pub slots : List Candidate
+  pub rows : take (2 * count) steps ≡ flatMap stepRows slots
+  -- "Start marked 0: no steps. Else as many steps as the mark."
+  pub many : length slots ≡ count
+  pub start : count ≡ markAt (S .n) marks t s
+  -- the marks that are written are the marks of the pairs
+  pub marked : (u w : ℕ) → u < D .n → w < S .n → markAt (S .n) marks u w ≡ mark mode D S u w
+  -- it is the run of document 01, to the row
+  pub is-run : IsRun mode D S t s slots
+  -- and leads by surviving moves to a blocked pair
+  pub blocked : (count ≡ 0 → ⊥) → EndsBlocked D S t s slots

@@ -2,4 +2,5 @@ pub mod Answers
 pub mod Pairs
 pub mod Moves
 pub mod Decide
+pub mod Run
 pub mod Demands

@@ -1,6 +1,6 @@
 // The calls about a pair of states, as document 01 lists them. Each opens the file, turns back what must be turned back, and has one crate
 // below work out the answer. Nothing is asked of the caller. Relies on `rules` for the meaning, on `tables` for the file, on `moves` for the
-// surviving moves of a pair and on `marks` for the marks of all pairs.
+// surviving moves of a pair, on `marks` for the marks of all pairs and on `runs` for the run that shows a no.
 ghost use Prim.Native.Nat.{ℕ};
 ghost use mathlib.Core.Path.{_≡_};
 ghost use mathlib.Core.List.{[], _∷_};
@@ -10,7 +10,8 @@ ghost use Rattle.checker.specs.Answers.{counted, decided};
 ghost use Rattle.checker.specs.Pairs.{demandOf, supplyOf};
 ghost use Rattle.checker.specs.Moves.{movesAnswer, movesSlice};
 ghost use Rattle.checker.specs.Decide.{modeOf, decideAnswer, decideSlice};
-ghost use Rattle.checker.specs.Demands.{SecondDemand, ThirdDemand};
+ghost use Rattle.checker.specs.Run.{runAnswer, runMarks, runSteps};
+ghost use Rattle.checker.specs.Demands.{SecondDemand, ThirdDemand, RunDemand};
 use tables::Checked;
 use tables::Opened;
 use tables::Refusal;
@@ -83,4 +84,30 @@ pub fn decide(file: &[u8], question: Question, mode: usize, marks: &mut [u16]) -
         return Decided::Refused(Refusal::new(15, 0));
     }
     pairs::write_marks(file, question, mode, marks)
+}
+
+// Run: the marks as Decide writes them, and the steps of the run from the start pair, supply row and task row of each.
+pub fn run(
+    file: &[u8],
+    question: Question,
+    mode: usize,
+    marks: &mut [u16],
+    steps: &mut [u16],
+) -> Counted
+    ensures answer { λ r. ⌜ counted r ≡ runAnswer (now (file .entry)) question mode (length (now (marks .entry))) (length (now (steps .entry))) ⌝ }
+    ensures marks { λ r. ⌜ now (marks .exit) ≡ runMarks (now (file .entry)) question mode (now (marks .entry)) (length (now (steps .entry))) ⌝ }
+    ensures steps { λ r. ⌜ now (steps .exit) ≡ runSteps (now (file .entry)) question mode (length (now (marks .entry))) (now (steps .entry)) ⌝ }
+    ensures second { λ r. ⌜ ((count : ℕ) → counted r ≡ carriedOut (count ∷ []) → RunDemand (modeOf mode) (demandOf (now (file .entry)) question) (supplyOf (now (file .entry)) question) (question .demand .state) (question .supply .state) count (now (marks .exit)) (now (steps .exit))) ⌝ }
+{
+    let found = open(file);
+    let Opened::Tables(k) = found else {
+        return Counted::Refused(refusal_of(found));
+    };
+    if let Checked::Fault(refusal) = pairs::check_pair(file, k, question) {
+        return Counted::Refused(refusal);
+    }
+    if 1 < mode {
+        return Counted::Refused(Refusal::new(15, 0));
+    }
+    pairs::write_run(file, question, mode, marks, steps)
 }

@@ -6,6 +6,7 @@ ghost use Rattle.checker.specs.Answers.{counted, decided};
 ghost use Rattle.checker.specs.Pairs.{pairFault, PairAccepted};
 ghost use Rattle.checker.specs.Moves.{movesAnswer, movesSlice};
 ghost use Rattle.checker.specs.Decide.{modeOf, decideAnswer, decideSlice};
+ghost use Rattle.checker.specs.Run.{runAnswer, runMarks, runSteps};
 use crate::Counted;
 use crate::Decided;
 use crate::Question;
@@ -107,4 +108,39 @@ pub(crate) fn write_marks(
         kept: summary.kept,
         rounds: summary.rounds,
     })
+}
+
+// Writes the marks of all pairs of states and the steps from the start pair, where there is room for both.
+pub(crate) fn write_run(
+    file: &[u8],
+    question: Question,
+    mode: usize,
+    marks: &mut [u16],
+    steps: &mut [u16],
+) -> Counted
+    requires { ⌜ PairAccepted (now file) question × (mode ≤ 1) ⌝ }
+    ensures answer { λ r. ⌜ counted r ≡ runAnswer (now (file .entry)) question mode (length (now (marks .entry))) (length (now (steps .entry))) ⌝ }
+    ensures marks { λ r. ⌜ now (marks .exit) ≡ runMarks (now (file .entry)) question mode (now (marks .entry)) (length (now (steps .entry))) ⌝ }
+    ensures steps { λ r. ⌜ now (steps .exit) ≡ runSteps (now (file .entry)) question mode (length (now (marks .entry))) (now (steps .entry)) ⌝ }
+{
+    let demand = entry_at(file, question.demand.table);
+    let supply = entry_at(file, question.supply.table);
+    let pairs = demand.states as usize * supply.states as usize;
+    if marks.len() < pairs {
+        return Counted::Refused(Refusal::new(14, 0));
+    }
+    if steps.len() < 2 * pairs {
+        return Counted::Refused(Refusal::new(14, 0));
+    }
+    let requests = entry_body(file, demand);
+    let grants = entry_body(file, supply);
+    let sizes = Sizes {
+        demand: demand.states,
+        supply: supply.states,
+    };
+    let asked = mode_of(mode);
+    marks::write(requests, grants, sizes, asked, marks);
+    let t = question.demand.state as u8;
+    let s = question.supply.state as u8;
+    Counted::Count(runs::write(requests, grants, sizes, asked, t, s, marks, steps) as usize)
 }

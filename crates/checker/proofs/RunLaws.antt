@@ -1,0 +1,158 @@
+-- Laws of Run: the answer and the two slices, by what the checks find; and the run that they show. Relies on the laws of Decide and of runs.
+use Prim.Native.Nat.{ℕ, suc, _*_, _≤_, _<_}
+use mathlib.Core.Path.{_≡_, refl, sym, ap, ap₂, _∙_}
+use mathlib.Core.List.{List, [], _∷_}
+use native.Mathlib.Omega.{arith}
+use lib.ListN.{length, getD, take, drop}
+use lib.Seq.{take-at}
+use borrow.Author.Tests.{lt-ltb, le-ltb}
+use Rattle.rules.specs.declared.Mode.{Mode}
+use Rattle.rules.specs.Slices.{overwrite}
+use Rattle.rules.specs.Machines.{Machine}
+use Rattle.rules.specs.Rounds.{mark, markAt, marks}
+use Rattle.rules.specs.Steps.{IsRun, slots, steps}
+use Rattle.rules.proofs.MachineLaws.{moves-rise}
+use Rattle.rules.proofs.StepLaws.{run-is, run-length, run-blocked, length-steps}
+use Rattle.tables.specs.declared.reads.Entry.{Entry}
+use Rattle.tables.specs.declared.Refusal.{Refusal}
+use Rattle.tables.specs.declared.Checked.{Checked}
+use Rattle.tables.specs.declared.Checked.the-variants.{Passed, Fault}
+use Rattle.tables.specs.Checks.{refuse, fault, _then_}
+use Rattle.tables.specs.Answers.{turnedBack, carriedOut}
+use Rattle.tables.specs.File.{entryOf, bodyLength}
+use Rattle.tables.specs.Tables.{tableOf}
+use Rattle.tables.proofs.CheckLaws.{then-left}
+use Rattle.marks.specs.declared.Sizes.{Sizes}
+use Rattle.marks.specs.Rounds.{demandIn, supplyIn, marksIn}
+use Rattle.runs.specs.Walks.{HasMarks}
+use Rattle.checker.specs.declared.Question.{Question}
+use Rattle.checker.specs.declared.Counted.{Counted}
+use Rattle.checker.specs.Answers.{counted, sliceAfter}
+use Rattle.checker.specs.Pairs.{PairAccepted, demandOf, supplyOf}
+use Rattle.checker.specs.Decide.{modeOf, decideChecks}
+use Rattle.checker.specs.Run.{runChecks, runAnswer, runMarks, runSteps}
+use Rattle.checker.specs.Demands.{RunDemand}
+use Rattle.checker.proofs.PairLaws.{checks-asked, asked-demand, asked-supply, table-at-sound}
+use Rattle.checker.proofs.DecideLaws.{marked-entry, none-fault, demand-is, supply-is}
+use Rattle.checker.proofs.DemandLaws.{passed}
+
+module _ (s : List ℕ) (q : Question) (mode : ℕ) where
+  -- as Decide
+  pub decide-fault : (r : Refusal) (room more : ℕ) → decideChecks s q mode room ≡ Fault r → runChecks s q mode room more ≡ Fault r
+  unfolding runChecks _then_
+  decide-fault r room more e = rw e refl
+
+  -- turned back: the refusal is the answer, and both slices are unchanged
+  pub run-turned-back : (r : Refusal) (first second : List ℕ) → runChecks s q mode (length first) (length second) ≡ Fault r
+      → (turnedBack r ≡ runAnswer s q mode (length first) (length second)) × ((first ≡ runMarks s q mode first (length second)) × (second ≡ runSteps s q mode (length first) second))
+  unfolding runAnswer runMarks runSteps
+  run-turned-back r first second e = (rw e refl, (rw e refl, rw e refl))
+
+  module _ (a : PairAccepted s q) (known : mode ≤ 1) (d : Entry) (e : d ≡ entryOf s (q .demand .table)) (u : Entry) (f : u ≡ entryOf s (q .supply .table))
+      (room : ℕ) (long : d .states * u .states ≤ room) where
+    pairs-are : d .states * u .states ≡ demandOf s q .n * supplyOf s q .n
+    pairs-are = ap₂ (λ (x y : Entry). x .states * y .states) e f
+
+    pub steps-fault : (more : ℕ) → more < 2 * (d .states * u .states) → runChecks s q mode room more ≡ Fault (refuse 14 0)
+    unfolding runChecks _then_ fault
+    steps-fault more l =
+        let short : more < 2 * (demandOf s q .n * supplyOf s q .n) = omega (arith, pairs-are) in
+        rw (none-fault s q mode a known d e u f room long, lt-ltb more (2 * (demandOf s q .n * supplyOf s q .n)) short) refl
+
+    no-fault : (more : ℕ) → 2 * (d .states * u .states) ≤ more → runChecks s q mode room more ≡ Passed
+    unfolding runChecks _then_ fault
+    no-fault more l =
+        let enough : 2 * (demandOf s q .n * supplyOf s q .n) ≤ more = omega (arith, pairs-are) in
+        rw (none-fault s q mode a known d e u f room long, le-ltb more (2 * (demandOf s q .n * supplyOf s q .n)) enough) refl
+
+-- ---- carried out
+
+-- the marks that were written are read
+pub has-marks : (mode : Mode) (D S : Machine) (entry : List ℕ) {exit : List ℕ} → exit ≡ overwrite (marks mode D S) entry → HasMarks mode D S exit
+has-marks mode D S entry e = record { each = λ t s l k. ap (λ (x : List ℕ). markAt (S .n) x t s) e ∙ marked-entry mode D S entry t s l k }
+
+module _ (s : List ℕ) (q : Question) (mode : ℕ) (a : PairAccepted s q) (known : mode ≤ 1) (d : Entry) (e : d ≡ entryOf s (q .demand .table)) (u : Entry) (f : u ≡ entryOf s (q .supply .table))
+    (b : List ℕ) (part : b ≡ take (bodyLength d) (drop (d .offset) s)) (g : List ℕ) (piece : g ≡ take (bodyLength u) (drop (u .offset) s))
+    (m : Mode) (same : m ≡ modeOf mode) where
+  abbrev n : Sizes
+  n = record { demand = d .states; supply = u .states }
+
+  pub run-carried-out : (first second : List ℕ) → d .states * u .states ≤ length first → 2 * (d .states * u .states) ≤ length second
+      → {count : ℕ} {marked stepped : List ℕ}
+      → marked ≡ overwrite (marksIn m b g n) first
+      → count ≡ mark m (demandIn b n) (supplyIn g n) (q .demand .state) (q .supply .state)
+      → stepped ≡ overwrite (steps m (demandIn b n) (supplyIn g n) (q .demand .state) (q .supply .state)) second
+      → (carriedOut (count ∷ []) ≡ runAnswer s q mode (length first) (length second)) × ((marked ≡ runMarks s q mode first (length second)) × (stepped ≡ runSteps s q mode (length first) second))
+  unfolding runAnswer runMarks runSteps
+  run-carried-out first second long room x y z =
+      let none = no-fault s q mode a known d e u f (length first) long (length second) room in
+      let D-is = demand-is s q mode a known d e u f b part g piece in
+      let S-is = supply-is s q mode a known d e u f b part g piece in (
+        rw none (ap (λ (n : ℕ). carriedOut (n ∷ [])) (y ∙ rw (same, D-is, S-is) refl)),
+        (rw none (x ∙ rw (same, D-is, S-is) refl), rw none (z ∙ rw (same, D-is, S-is) refl)),
+      )
+
+-- ---- the run that is shown
+
+module _ (file : List ℕ) (q : Question) (mode : ℕ) (first second : List ℕ) {marked stepped : List ℕ} (left : marked ≡ runMarks file q mode first (length second))
+    (gone : stepped ≡ runSteps file q mode (length first) second) (count : ℕ) (told : runAnswer file q mode (length first) (length second) ≡ carriedOut (count ∷ [])) where
+  abbrev D : Machine
+  D = demandOf file q
+
+  abbrev S : Machine
+  S = supplyOf file q
+
+  abbrev t : ℕ
+  t = q .demand .state
+
+  abbrev w : ℕ
+  w = q .supply .state
+
+  outcome : (runChecks file q mode (length first) (length second) ≡ Passed) × (mark (modeOf mode) D S t w ∷ [] ≡ count ∷ [])
+  unfolding runAnswer
+  outcome = passed (runChecks file q mode (length first) (length second)) _ _ _ told
+
+  asked : PairAccepted file q
+  unfolding runChecks decideChecks
+  asked = checks-asked file q (then-left _ _ (then-left _ _ (outcome .0)))
+
+  start-mark : mark (modeOf mode) D S t w ≡ count
+  start-mark = ap (λ (l : List ℕ). getD l 0 0) (outcome .1)
+
+  marks-written : marked ≡ overwrite (marks (modeOf mode) D S) first
+  unfolding runMarks
+  marks-written = left ∙ ap (λ (c : Checked). sliceAfter c (overwrite (marks (modeOf mode) D S) first) first) (outcome .0)
+
+  steps-written : stepped ≡ overwrite (steps (modeOf mode) D S t w) second
+  unfolding runSteps
+  steps-written = gone ∙ ap (λ (c : Checked). sliceAfter c (overwrite (steps (modeOf mode) D S t w) second) second) (outcome .0)
+
+  steps-first : take (2 * count) stepped ≡ steps (modeOf mode) D S t w
+  unfolding overwrite
+  steps-first =
+      ap (take (2 * count)) steps-written
+      ∙ take-at (steps (modeOf mode) D S t w) (drop (length (steps (modeOf mode) D S t w)) second) (2 * count) (length-steps (modeOf mode) D S t w ∙ ap (λ (k : ℕ). 2 * k) start-mark)
+
+  run : IsRun (modeOf mode) D S t w (slots (modeOf mode) D S (mark (modeOf mode) D S t w) t w)
+  run =
+      run-is D S (table-at-sound file (q .demand .table) t (asked-demand file q asked)) (table-at-sound file (q .supply .table) w (asked-supply file q asked))
+      (moves-rise (tableOf file (q .demand .table) .rows)) (moves-rise (tableOf file (q .supply .table) .rows)) (modeOf mode) t w (asked-demand file q asked .state) (asked-supply file q asked .state)
+
+  pub run-demand : RunDemand (modeOf mode) D S t w count marked stepped
+  unfolding steps
+  run-demand = record {
+    slots = slots (modeOf mode) D S (mark (modeOf mode) D S t w) t w;
+    rows = steps-first;
+    many = run-length (modeOf mode) D S run ∙ start-mark;
+    start = sym start-mark ∙ sym (has-marks (modeOf mode) D S first marks-written .each t w (asked-demand file q asked .state) (asked-supply file q asked .state));
+    marked = has-marks (modeOf mode) D S first marks-written .each;
+    is-run = run;
+    blocked = λ f. run-blocked (modeOf mode) D S run (λ z. f (sym start-mark ∙ z));
+  }
+
+-- what Run ensures, from its answer and the two slices
+pub run-shown : (file : List ℕ) (q : Question) (mode : ℕ) (first second : List ℕ) {marked stepped : List ℕ} (r : Counted)
+    → (counted r ≡ runAnswer file q mode (length first) (length second)) × ((marked ≡ runMarks file q mode first (length second)) × (stepped ≡ runSteps file q mode (length first) second))
+    → (counted r ≡ runAnswer file q mode (length first) (length second)) × ((marked ≡ runMarks file q mode first (length second)) × ((stepped ≡ runSteps file q mode (length first) second)
+    × ((count : ℕ) → counted r ≡ carriedOut (count ∷ []) → RunDemand (modeOf mode) (demandOf file q) (supplyOf file q) (q .demand .state) (q .supply .state) count marked stepped)))
+run-shown file q mode first second r (told, (left, gone)) = (told, (left, (gone, λ count e. run-demand file q mode first second left gone count (sym told ∙ e))))
