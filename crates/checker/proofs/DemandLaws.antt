@@ -31,9 +31,23 @@ use Rattle.checker.specs.declared.Decided.{Decided}
 use Rattle.checker.specs.Answers.{decided, sliceAfter}
 use Rattle.checker.specs.Pairs.{PairAccepted, demandOf, supplyOf}
 use Rattle.checker.specs.Decide.{modeOf, decideChecks, decideAnswer, decideSlice}
-use Rattle.checker.specs.Demands.{KeptIn, SecondDemand, ThirdDemand, ThirdDemandAll}
+use Rattle.checker.specs.Demands.{KeptIn, MarksDemand, SecondDemand, ThirdDemand, ThirdDemandAll}
 use Rattle.checker.proofs.PairLaws.{checks-asked, asked-demand, asked-supply, table-at-sound}
 use Rattle.checker.proofs.DecideLaws.{marked-entry}
+
+-- ---- marks that are written
+
+pub marks-demand : (mode : Mode) (D S : Machine) (slice : List ℕ) → ((u w : ℕ) → u < D .n → w < S .n → markAt (S .n) slice u w ≡ mark mode D S u w) → MarksDemand mode D S slice
+marks-demand mode D S slice marked = record {
+  struck = λ k u w l m. (
+    λ e. mark-round mode D S k u w .0 (sym (marked u w l m) ∙ e),
+    λ r. marked u w l m ∙ mark-round mode D S k u w .1 r,
+  );
+  kept = λ u w l m. (
+    λ e. mark-zero mode D S u w (below-pair D S u w l m) .0 (sym (marked u w l m) ∙ e),
+    λ f. marked u w l m ∙ mark-zero mode D S u w (below-pair D S u w l m) .1 f,
+  );
+}
 
 -- ---- what a verdict and a slice tell
 
@@ -136,14 +150,7 @@ module _ (mode : Mode) (D S : Machine) (t s verdict kept highest : ℕ) (slice :
   pub second : Sound D → Sound S → SecondDemand mode D S t s verdict highest slice
   second sd ss = record {
     full-yes = by-runs;
-    struck = λ k u w l m. (
-      λ e. mark-round mode D S k u w .0 (sym (h .marked u w l m) ∙ e),
-      λ r. h .marked u w l m ∙ mark-round mode D S k u w .1 r,
-    );
-    kept = λ u w l m. (
-      λ e. mark-zero mode D S u w (below-pair D S u w l m) .0 (sym (h .marked u w l m) ∙ e),
-      λ f. h .marked u w l m ∙ mark-zero mode D S u w (below-pair D S u w l m) .1 f,
-    );
+    marks = marks-demand mode D S slice (h .marked);
     highest = highest-mark;
     few-rounds = few;
   }

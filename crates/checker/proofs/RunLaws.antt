@@ -34,7 +34,7 @@ use Rattle.checker.specs.Run.{runChecks, runAnswer, runMarks, runSteps}
 use Rattle.checker.specs.Demands.{RunDemand}
 use Rattle.checker.proofs.PairLaws.{checks-asked, asked-demand, asked-supply, table-at-sound}
 use Rattle.checker.proofs.DecideLaws.{marked-entry, none-fault, demand-is, supply-is}
-use Rattle.checker.proofs.DemandLaws.{passed}
+use Rattle.checker.proofs.DemandLaws.{marks-demand, passed}
 
 module _ (s : List ℕ) (q : Question) (mode : ℕ) where
   -- as Decide
@@ -145,7 +145,7 @@ module _ (file : List ℕ) (q : Question) (mode : ℕ) (first second : List ℕ)
     rows = steps-first;
     many = run-length (modeOf mode) D S run ∙ start-mark;
     start = sym start-mark ∙ sym (has-marks (modeOf mode) D S first marks-written .each t w (asked-demand file q asked .state) (asked-supply file q asked .state));
-    marked = has-marks (modeOf mode) D S first marks-written .each;
+    marks-are = marks-demand (modeOf mode) D S marked (has-marks (modeOf mode) D S first marks-written .each);
     is-run = run;
     blocked = λ f. run-blocked (modeOf mode) D S run (λ z. f (sym start-mark ∙ z));
   }

@@ -1,6 +1,6 @@
--- The second and the third demand, of a call of Decide or Run that is carried out: for the machines D and S of the two tables, the start pair
--- (t, s), the values that are returned (the verdict, 1 for yes and 0 for no; the count kept; rounds; the count of steps), and what the slices
--- hold at exit.
+-- The second and the third demand, of a call of Decide that is carried out, and what the second says of Run: for the machines D and S of the two
+-- tables, the start pair (t, s), the values that are returned (the verdict, 1 for yes and 0 for no; the count kept; rounds; the count of steps),
+-- and what the slices hold at exit.
 use Prim.Native.Nat.{ℕ, suc, _*_, _≤_, _<_}
 use mathlib.Core.Path.{_≡_}
 use mathlib.Core.Bool.{Bool, not}
@@ -14,7 +14,7 @@ use Rattle.rules.specs.Below.{maxBelow}
 use Rattle.rules.specs.Machines.{Machine}
 use Rattle.rules.specs.Moves.{Candidate}
 use Rattle.rules.specs.Relations.{Pairs, Passing, Meets}
-use Rattle.rules.specs.Rounds.{Kept, mark, markAt, countPairs}
+use Rattle.rules.specs.Rounds.{Kept, markAt, countPairs}
 use Rattle.rules.specs.Runs.{Free}
 use Rattle.rules.specs.Steps.{IsRun, EndsBlocked, stepRows}
 
@@ -40,23 +40,27 @@ pub record ThirdDemandAll (mode : Mode) (D S : Machine) (t s verdict kept : ℕ)
   pub count : kept ≡ countPairs D S (λ u w. eqb (markAt (S .n) slice u w) 0)
   pub no-exactly : (verdict ≡ 0) ↔ ((R : Pairs) → Meets mode D S R → R t s → ⊥)
 
--- The second demand, as far as it speaks of Decide. That the moves are those of PADS is said of Moves of a pair (`moves-are-steps`); the run that
--- a no brings is Run's.
-pub record SecondDemand (mode : Mode) (D S : Machine) (t s verdict rounds : ℕ) (slice : List ℕ) : Type 0 where
-  -- "A full yes is said exactly if no run of these moves reaches a stuck pair or an unmet request."
-  pub full-yes : mode ≡ Full → (verdict ≡ 1) ↔ Free D S t s
+-- The second demand, of marks that are written.
+pub record MarksDemand (mode : Mode) (D S : Machine) (slice : List ℕ) : Type 0 where
   -- "In both modes each struck pair bears the round in which the stepwise definition first loses it": the rounds up to k keep it, and round
   -- k + 1 does not
   pub struck : (k u w : ℕ) → u < D .n → w < S .n
       → (markAt (S .n) slice u w ≡ suc k) ↔ (((i : ℕ) → i ≤ k → Kept mode D S i u w) × (Kept mode D S (suc k) u w → ⊥))
   -- "or 0 if every round does"
   pub kept : (u w : ℕ) → u < D .n → w < S .n → (markAt (S .n) slice u w ≡ 0) ↔ ((k : ℕ) → Kept mode D S k u w)
+
+-- The second demand, as far as it speaks of Decide. That the moves are those of PADS is said of Moves of a pair (`moves-are-steps`); the run that
+-- a no brings, of Run (`RunDemand`).
+pub record SecondDemand (mode : Mode) (D S : Machine) (t s verdict rounds : ℕ) (slice : List ℕ) : Type 0 where
+  -- "A full yes is said exactly if no run of these moves reaches a stuck pair or an unmet request."
+  pub full-yes : mode ≡ Full → (verdict ≡ 1) ↔ Free D S t s
+  pub marks : MarksDemand mode D S slice
   -- "rounds, the highest mark written, 0 where all pairs are kept"
   pub highest : rounds ≡ maxBelow (D .n) (λ u. maxBelow (S .n) (λ w. markAt (S .n) slice u w))
   -- "Rounds never exceed the count of struck pairs."
   pub few-rounds : rounds ≤ countPairs D S (λ u w. not (eqb (markAt (S .n) slice u w) 0))
 
--- The second demand, as far as it speaks of Run: "and a no brings a run of that many slots."
+-- The second demand, as far as it speaks of Run: "a no brings a run of that many slots".
 pub record RunDemand (mode : Mode) (D S : Machine) (t s count : ℕ) (marks steps : List ℕ) : Type 0 where
   -- the slots of the run; "A step is supply row, task row."
   pub slots : List Candidate
@@ -64,8 +68,7 @@ pub record RunDemand (mode : Mode) (D S : Machine) (t s count : ℕ) (marks step
   -- "Start marked 0: no steps. Else as many steps as the mark."
   pub many : length slots ≡ count
   pub start : count ≡ markAt (S .n) marks t s
-  -- the marks that are written are the marks of the pairs
-  pub marked : (u w : ℕ) → u < D .n → w < S .n → markAt (S .n) marks u w ≡ mark mode D S u w
+  pub marks-are : MarksDemand mode D S marks
   -- it is the run of document 01, to the row
   pub is-run : IsRun mode D S t s slots
   -- and leads by surviving moves to a blocked pair

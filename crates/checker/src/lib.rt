@@ -32,7 +32,7 @@ pub struct Question {
     pub supply: Side,
 }
 
-// What a call that fills a slice answers: the count of what it wrote, or why it is turned back.
+// What Moves of a pair and Run answer: the count of moves or of steps, or why the call is turned back.
 pub enum Counted {
     Count(usize),
     Refused(Refusal),

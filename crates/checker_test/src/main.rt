@@ -1,9 +1,11 @@
-// Runs the calls about a pair on document 01's file E, on tables drawn for the edges (F and G) and on long cycles, and writes every answer, the
+// Runs the calls about a pair on document 01's file E, on tables drawn for the edges (F, G and H) and on long cycles, and writes every answer, the
 // entries written, and how many of the other entries are unchanged. The file `stdout` beside this folder has the answers that are due. Relies
 // on `checker`.
+mod cycles;
 mod decide;
 mod lines;
 mod moves_of_pair;
+mod run_of_pair;
 
 // Document 01's file E: a demand of 4 states and 4 rows, a supply of 3 states and 2 rows.
 pub(crate) const EXAMPLE: [u8; 38] =
@@ -19,7 +21,15 @@ pub(crate) const DRAWN: [u8; 158] =
 pub(crate) const CHOICES: [u8; 30] =
     *b"\x02\x00\x01\x03\x03\x00\x0E\x00\x02\x02\x01\x00\x1A\x00\x01\x02\x01\x00\x01\x00\x02\x00\x02\x00\x01\x00\x01\x00\x03\x00";
 
+// Eight demands, each with a supply after it. 0: two equal requests, of which the second leads to the later mark. 2: a supply whose lower row
+// forces nothing in partial mode. 4: FIN only, beside a supply with three rows, of which the first leads back, and a stuck state. 6: choices
+// whose runs in the two modes differ. 8: a supply with two rows that have no response, after one that has. 10: a response that is not
+// maximal before one that is. 12: a task that idles while the supply comes to be stuck. 14: two responses to the same mark, beside FIN.
+pub(crate) const RUNS: [u8; 206] =
+    *b"\x10\x00\x01\x03\x03\x00\x62\x00\x02\x02\x01\x00\x6E\x00\x01\x03\x02\x00\x72\x00\x02\x02\x02\x00\x7A\x00\x01\x01\x00\x00\x82\x00\x02\x03\x03\x00\x82\x00\x01\x03\x02\x00\x8E\x00\x02\x03\x02\x00\x96\x00\x01\x02\x01\x00\x9E\x00\x02\x02\x03\x00\xA2\x00\x01\x02\x02\x00\xAE\x00\x02\x02\x01\x00\xB6\x00\x01\x02\x01\x00\xBA\x00\x02\x04\x02\x00\xBE\x00\x01\x04\x02\x00\xC6\x00\x02\x01\x00\x00\xCE\x00\x01\x01\x01\x00\x01\x02\x01\x00\x02\x01\x00\x00\x01\x00\x01\x00\x01\x00\x01\x00\x01\x02\x02\x00\x01\x01\x03\x00\x01\x01\x06\x00\x01\x01\x00\x00\x01\x02\x00\x00\x01\x02\x01\x00\x01\x00\x00\x00\x01\x02\x00\x00\x02\x00\x00\x00\x02\x01\x00\x00\x01\x00\x01\x00\x01\x00\x01\x00\x01\x00\x02\x00\x01\x01\x02\x00\x01\x01\x01\x00\x01\x01\x03\x00\x01\x00\x03\x00\x01\x00\x00\x00\x02\x03\x00\x00\x03\x01\x00\x00\x01\x02\x00\x00\x01\x03\x00\x00";
+
 pub fn main() {
     moves_of_pair::run();
     decide::run();
+    run_of_pair::run();
 }

@@ -13,7 +13,7 @@ module _ {A : Type 0} where
   all p [] = true
   all p (x ∷ xs) = p x && all p xs
 
-  -- the first element at which p passes, or another where there is none
+  -- the first element at which p passes, or `other` where there is none
   abbrev pub first : (A → Bool) → A → List A → A
   first p other [] = other
   first p other (x ∷ xs) = cond (p x) x (first p other xs)

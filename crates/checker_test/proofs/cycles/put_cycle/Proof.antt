@@ -1,11 +1,11 @@
--- `checker_test::decide::put_cycle` meets its contract. The slice keeps its length.
+-- `checker_test::cycles::put_cycle` meets its contract. The slice keeps its length.
 use Prim.Native.Nat.{_-_, _≤_}
 use mathlib.Core.Path.{_≡_, refl}
 use native.Mathlib.Omega.{arith}
 use lib.ListN.{length}
 use borrow.Author.Needs.{needs}
-use Rattle.checker_test.proofs.decide.put_cycle.Statement.{statement}
-use Rattle.checker_test.proofs.decide.put_cycle.Tie as tie
+use Rattle.checker_test.proofs.cycles.put_cycle.Statement.{statement}
+use Rattle.checker_test.proofs.cycles.put_cycle.Tie as tie
 
 abbrev Inv-loop : tie.InvT-loop
 Inv-loop file₀ body states usual last i₀ file i = (i ≤ states) × (length file ≡ length file₀)

@@ -1,15 +1,15 @@
--- `checker_test::decide::digest` meets its contract. The loop ends.
+-- `checker_test::cycles::digest` meets its contract. The loop ends.
 use Prim.Native.Nat.{_-_, _≤_}
 use native.Mathlib.Omega.{arith}
 use borrow.Author.Needs.{needs}
-use Rattle.checker_test.proofs.decide.digest.Statement.{statement}
-use Rattle.checker_test.proofs.decide.digest.Tie as tie
+use Rattle.checker_test.proofs.cycles.digest.Statement.{statement}
+use Rattle.checker_test.proofs.cycles.digest.Tie as tie
 
 abbrev Inv-loop : tie.InvT-loop
-Inv-loop marks count sum₀ i₀ sum i = i ≤ count
+Inv-loop out count sum₀ i₀ sum i = i ≤ count
 
 abbrev μ-loop : tie.MeasureT-loop
-μ-loop marks count sum₀ i₀ sum i = count - i
+μ-loop out count sum₀ i₀ sum i = count - i
 
 loop-holds : tie.Need-loop-holds Inv-loop μ-loop
 loop-holds c = omega arith
