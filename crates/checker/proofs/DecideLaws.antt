@@ -5,9 +5,9 @@ use mathlib.Core.Bool.{Bool, true, false}
 use mathlib.Core.List.{List, [], _∷_}
 use native.Mathlib.Omega.{arith}
 use lib.Arith.{digits-lt}
-use lib.Dec.{eqb}
+use lib.Dec.{ltb, eqb}
 use lib.ListN.{length, getD, take, drop}
-use borrow.Author.Tests.{lt-ltb, le-ltb}
+use borrow.Author.Tests.{lt-ltb, le-ltb, ltb-false}
 use Rattle.rules.specs.declared.Mode.{Mode}
 use Rattle.rules.specs.Below.{one}
 use Rattle.rules.specs.Slices.{overwrite}
@@ -17,18 +17,23 @@ use Rattle.rules.proofs.SliceLaws.{overwrite-entry, length-overwrite}
 use Rattle.rules.proofs.MarkLaws.{marks-entry, length-marks}
 use Rattle.tables.specs.declared.reads.Entry.{Entry}
 use Rattle.tables.specs.declared.Refusal.{Refusal}
+use Rattle.tables.specs.declared.Checked.{Checked}
 use Rattle.tables.specs.declared.Checked.the-variants.{Passed, Fault}
+use Rattle.tables.specs.declared.Opened.{Opened}
+use Rattle.tables.specs.declared.Opened.the-variants.{Tables}
 use Rattle.tables.specs.Checks.{refuse, fault, _then_}
-use Rattle.tables.specs.Answers.{Answer, turnedBack, carriedOut}
+use Rattle.tables.specs.Answers.{turnedBack, carriedOut, opened}
 use Rattle.tables.specs.File.{entryOf, bodyLength}
-use Rattle.moves.specs.States.{machineIn}
+use Rattle.tables.specs.Open.{openOf}
+use Rattle.tables.proofs.CheckLaws.{fault-passed, then-left, then-right, then-assoc}
+use Rattle.tables.proofs.AcceptedLaws.{tables-passed}
 use Rattle.marks.specs.declared.Sizes.{Sizes}
 use Rattle.marks.specs.declared.Summary.{Summary}
 use Rattle.marks.specs.Rounds.{TwoTables, demandIn, supplyIn, marksIn, summaryIn}
 use Rattle.checker.specs.declared.Question.{Question}
-use Rattle.checker.specs.Pairs.{pairChecks, PairAccepted, demandOf, supplyOf}
+use Rattle.checker.specs.Pairs.{pairFault, pairChecks, PairAccepted, demandOf, supplyOf}
 use Rattle.checker.specs.Decide.{modeOf, decideChecks, decideAnswer, decideSlice}
-use Rattle.checker.proofs.PairLaws.{asked-checks, asked-demand, asked-supply, states-few, sorted-body, body-machine, machine-sound}
+use Rattle.checker.proofs.PairLaws.{pair-asked, asked-checks, asked-demand, asked-supply, states-few, sorted-body, body-machine, machine-sound}
 
 -- a mark that is written stands at its entry
 pub marked-entry : (mode : Mode) (D S : Machine) (l : List ℕ) (t s : ℕ) → t < D .n → s < S .n → markAt (S .n) (overwrite (marks mode D S) l) t s ≡ mark mode D S t s
@@ -41,6 +46,21 @@ module _ (s : List ℕ) (q : Question) (mode : ℕ) where
   unfolding decideChecks _then_
   early-fault r room e = rw e refl
 
+  -- by a number up to 15, in an opened file
+  module _ (o : Opened) (e : opened o ≡ openOf s) (k : ℕ) (c : Checked) (p : o ≡ Tables k) (f : c ≡ (pairFault s k q then fault (ltb 1 mode) 15 0)) where
+    pub decision-fault : (r : Refusal) (room : ℕ) → c ≡ Fault r → decideChecks s q mode room ≡ Fault r
+    unfolding decideChecks pairChecks _then_
+    decision-fault r room g =
+        let (file, tables) = tables-passed s k (rw p at e) in
+        let short : Checked = fault (ltb room (demandOf s q .n * supplyOf s q .n)) 14 0 in
+        rw (file, tables) (sym (then-assoc (pairFault s k q) (fault (ltb 1 mode) 15 0) short) ∙ ap (λ (x : Checked). x then short) (sym f ∙ g))
+
+    pub decision-asked : c ≡ Passed → PairAccepted s q × (mode ≤ 1)
+    decision-asked g = (
+      pair-asked s q o e k (pairFault s k q) p refl (then-left _ _ (sym f ∙ g)),
+      ltb-false 1 mode (fault-passed _ _ _ (then-right _ _ (sym f ∙ g))),
+    )
+
   -- turned back: the refusal is the answer, and the slice is unchanged
   pub turned-back : (r : Refusal) (entry : List ℕ) → decideChecks s q mode (length entry) ≡ Fault r
       → (turnedBack r ≡ decideAnswer s q mode (length entry)) × (entry ≡ decideSlice s q mode entry)
@@ -48,10 +68,6 @@ module _ (s : List ℕ) (q : Question) (mode : ℕ) where
   turned-back r entry e = (rw e refl, rw e refl)
 
   module _ (a : PairAccepted s q) where
-    pub mode-fault : (room : ℕ) → 1 < mode → decideChecks s q mode room ≡ Fault (refuse 15 0)
-    unfolding decideChecks _then_ fault
-    mode-fault room l = rw (asked-checks s q a, lt-ltb 1 mode l) refl
-
     module _ (known : mode ≤ 1) where
       -- the entries of the two tables, as they are read
       module _ (d : Entry) (e : d ≡ entryOf s (q .demand .table)) (u : Entry) (f : u ≡ entryOf s (q .supply .table)) where

@@ -77,11 +77,8 @@ pub fn decide(file: &[u8], question: Question, mode: usize, marks: &mut [u16]) -
     let Opened::Tables(k) = found else {
         return Decided::Refused(refusal_of(found));
     };
-    if let Checked::Fault(refusal) = pairs::check_pair(file, k, question) {
+    if let Checked::Fault(refusal) = pairs::check_decision(file, k, question, mode) {
         return Decided::Refused(refusal);
-    }
-    if 1 < mode {
-        return Decided::Refused(Refusal::new(15, 0));
     }
     pairs::write_marks(file, question, mode, marks)
 }
@@ -103,11 +100,8 @@ pub fn run(
     let Opened::Tables(k) = found else {
         return Counted::Refused(refusal_of(found));
     };
-    if let Checked::Fault(refusal) = pairs::check_pair(file, k, question) {
+    if let Checked::Fault(refusal) = pairs::check_decision(file, k, question, mode) {
         return Counted::Refused(refusal);
-    }
-    if 1 < mode {
-        return Counted::Refused(Refusal::new(15, 0));
     }
     pairs::write_run(file, question, mode, marks, steps)
 }

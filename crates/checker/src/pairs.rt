@@ -1,7 +1,9 @@
 // Questions about a pair of states: what turns them back after opening, and their answers where nothing does.
 ghost use mathlib.Core.Path.{_≡_};
+ghost use lib.Dec.{ltb};
 ghost use lib.ListN.{length};
 ghost use Prim.Native.Nat.{_≤_};
+ghost use Rattle.tables.specs.Checks.{fault, _then_};
 ghost use Rattle.checker.specs.Answers.{counted, decided};
 ghost use Rattle.checker.specs.Pairs.{pairFault, PairAccepted};
 ghost use Rattle.checker.specs.Moves.{movesAnswer, movesSlice};
@@ -43,6 +45,19 @@ pub(crate) fn check_pair(file: &[u8], k: usize, question: Question) -> Checked
     }
     if (supply.states as usize) <= question.supply.state {
         return Checked::Fault(Refusal::new(13, 0));
+    }
+    Checked::Passed
+}
+
+// What turns back a question about a pair in a mode, in a file of k tables.
+pub(crate) fn check_decision(file: &[u8], k: usize, question: Question, mode: usize) -> Checked
+    ensures { λ r. ⌜ r ≡ (pairFault (now (file .entry)) k question then fault (ltb 1 mode) 15 0) ⌝ }
+{
+    if let Checked::Fault(refusal) = check_pair(file, k, question) {
+        return Checked::Fault(refusal);
+    }
+    if 1 < mode {
+        return Checked::Fault(Refusal::new(15, 0));
     }
     Checked::Passed
 }

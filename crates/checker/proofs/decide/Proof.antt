@@ -1,8 +1,7 @@
--- `checker::decide` meets its contract. What opening finds is handed on; then what turns back the pair; then the mode; then the engine answers.
-use Rattle.tables.specs.Checks.{refuse}
+-- `checker::decide` meets its contract. What opening finds is handed on; then what turns back the pair or the mode; then the engine answers.
 use Rattle.checker.specs.declared.Decided.the-variants.{Refused}
-use Rattle.checker.proofs.PairLaws.{pair-refused, pair-fault, pair-asked}
-use Rattle.checker.proofs.DecideLaws.{early-fault, mode-fault, turned-back}
+use Rattle.checker.proofs.PairLaws.{pair-refused}
+use Rattle.checker.proofs.DecideLaws.{early-fault, decision-fault, decision-asked, turned-back}
 use Rattle.checker.proofs.DemandLaws.{demands}
 use borrow.Author.Needs.{needs}
 use Rattle.checker.proofs.decide.Statement.{statement}
@@ -23,32 +22,26 @@ refusal-of-requires c κs = search needs
 returns : tie.Need-returns
 returns c = rw (c .refusal-of .ensures, c .before .enum-told .given .1) (demands _ _ _ _ _ (Refused _) (turned-back _ _ _ _ _ (early-fault _ _ _ _ _ (pair-refused _ _ _ (c .before .before .before .«open» .ensures) _ (c .before .enum-told .given .1)))))
 
-check-pair-requires : tie.Need-check-pair-requires
-check-pair-requires c κs = search needs
+check-decision-requires : tie.Need-check-decision-requires
+check-decision-requires c κs = search needs
 
 enum-known-refusal : tie.Need-enum-known-refusal
 enum-known-refusal c = search needs
 
 returns-2 : tie.Need-returns-2
-returns-2 c = demands _ _ _ _ _ (Refused _) (turned-back _ _ _ _ _ (early-fault _ _ _ _ _ (pair-fault _ _ _ (c .before .before .before .before .before .before .before .«open» .ensures) _ _ _ (c .before .before .before .before .before .found .given .1) (c .before .before .before .check-pair .ensures) (c .before .refusal .given .1))))
+returns-2 c = demands _ _ _ _ _ (Refused _) (turned-back _ _ _ _ _ (decision-fault _ _ _ _ (c .before .before .before .before .before .before .before .«open» .ensures) _ _ (c .before .before .before .before .before .found .given .1) (c .before .before .before .check-decision .ensures) _ _ (c .before .refusal .given .1)))
 
 enum-told-2 : tie.Need-enum-told-2
 enum-told-2 c = search needs
 
-new-requires : tie.Need-new-requires
-new-requires c κs = search needs
-
-returns-3 : tie.Need-returns-3
-returns-3 c = rw (c .new .ensures) (demands _ _ _ _ _ (Refused _) (turned-back _ _ _ (refuse 15 0) _ (mode-fault _ _ _ (pair-asked _ _ _ (c .before .before .before .before .before .before .before .before .«open» .ensures) _ _ (c .before .before .before .before .before .before .found .given .1) (c .before .before .before .before .check-pair .ensures) (c .before .before .enum-told2 .given .1)) _ (c .before .if1 .taken))))
-
 write-marks-requires : tie.Need-write-marks-requires
-write-marks-requires c κs = (pair-asked _ _ _ (c .before .before .before .before .before .before .before .before .«open» .ensures) _ _ (c .before .before .before .before .before .before .found .given .1) (c .before .before .before .before .check-pair .ensures) (c .before .before .enum-told2 .given .1), c .before .if1 .left)
+write-marks-requires c κs = (decision-asked _ _ _ _ (c .before .before .before .before .before .before .before .«open» .ensures) _ _ (c .before .before .before .before .before .found .given .1) (c .before .before .before .check-decision .ensures) (c .before .enum-told2 .given .1))
 
 same-length : tie.Need-same-length
 same-length c = search needs
 
-returns-4 : tie.Need-returns-4
-returns-4 c = demands _ _ _ _ _ (c .before .before .write-marks .result) (c .before .before .write-marks .ensures)
+returns-3 : tie.Need-returns-3
+returns-3 c = demands _ _ _ _ _ (c .before .before .write-marks .result) (c .before .before .write-marks .ensures)
 
 pub decide-spec : {M : Type 1} → statement M
 decide-spec =
@@ -59,12 +52,10 @@ decide-spec =
     enum-told
     refusal-of-requires
     returns
-    check-pair-requires
+    check-decision-requires
     enum-known-refusal
     returns-2
     enum-told-2
-    new-requires
-    returns-3
     write-marks-requires
     same-length
-    returns-4)
+    returns-3)
