@@ -1,7 +1,6 @@
 -- Laws of Decide: the answer and the slice, by what the checks find. Relies on the laws of questions about a pair and of marks.
 use Prim.Native.Nat.{ℕ, _+_, _*_, _≤_, _<_}
 use mathlib.Core.Path.{_≡_, refl, sym, ap, ap₂, _∙_}
-use mathlib.Core.Bool.{Bool, true, false}
 use mathlib.Core.List.{List, [], _∷_}
 use native.Mathlib.Omega.{arith}
 use lib.Arith.{digits-lt}
@@ -12,7 +11,7 @@ use Rattle.rules.specs.declared.Mode.{Mode}
 use Rattle.rules.specs.Below.{one}
 use Rattle.rules.specs.Slices.{overwrite}
 use Rattle.rules.specs.Machines.{Machine}
-use Rattle.rules.specs.Rounds.{mark, markAt, marks, keptCount, rounds}
+use Rattle.rules.specs.Rounds.{mark, markAt, marks}
 use Rattle.rules.proofs.SliceLaws.{overwrite-entry, length-overwrite}
 use Rattle.rules.proofs.MarkLaws.{marks-entry, length-marks}
 use Rattle.tables.specs.declared.reads.Entry.{Entry}
@@ -20,46 +19,55 @@ use Rattle.tables.specs.declared.Refusal.{Refusal}
 use Rattle.tables.specs.declared.Checked.{Checked}
 use Rattle.tables.specs.declared.Checked.the-variants.{Passed, Fault}
 use Rattle.tables.specs.declared.Opened.{Opened}
-use Rattle.tables.specs.declared.Opened.the-variants.{Tables}
+use Rattle.tables.specs.declared.Opened.the-variants.{Tables, Refused}
 use Rattle.tables.specs.Checks.{refuse, fault, _then_}
 use Rattle.tables.specs.Answers.{turnedBack, carriedOut, opened}
-use Rattle.tables.specs.File.{entryOf, bodyLength}
+use Rattle.tables.specs.File.{tablesOf, entryOf, bodyLength}
 use Rattle.tables.specs.Open.{openOf}
-use Rattle.tables.proofs.CheckLaws.{fault-passed, then-left, then-right, then-assoc}
-use Rattle.tables.proofs.AcceptedLaws.{tables-passed}
+use Rattle.tables.proofs.CheckLaws.{fault-passed, then-left, then-right}
+use Rattle.tables.proofs.AcceptedLaws.{tables-passed, refused-fault}
 use Rattle.marks.specs.declared.Sizes.{Sizes}
 use Rattle.marks.specs.declared.Summary.{Summary}
-use Rattle.marks.specs.Rounds.{TwoTables, demandIn, supplyIn, marksIn, summaryIn}
+use Rattle.marks.specs.Rounds.{TwoTables, HasMarks, demandIn, supplyIn, marksIn, summaryIn}
 use Rattle.checker.specs.declared.Question.{Question}
-use Rattle.checker.specs.Pairs.{pairFault, pairChecks, PairAccepted, demandOf, supplyOf}
-use Rattle.checker.specs.Decide.{modeOf, decideChecks, decideAnswer, decideSlice}
-use Rattle.checker.proofs.PairLaws.{pair-asked, asked-checks, asked-demand, asked-supply, states-few, sorted-body, body-machine, machine-sound}
+use Rattle.checker.specs.Pairs.{pairFault, PairAccepted, demandOf, supplyOf}
+use Rattle.checker.specs.Decide.{modeOf, decideFault, decideChecks, decideAnswer, decideSlice}
+use Rattle.checker.proofs.PairLaws.{pair-asked, asked-demand, asked-supply, states-few, sorted-body, body-machine, machine-sound}
 
 -- a mark that is written stands at its entry
-pub marked-entry : (mode : Mode) (D S : Machine) (l : List ℕ) (t s : ℕ) → t < D .n → s < S .n → markAt (S .n) (overwrite (marks mode D S) l) t s ≡ mark mode D S t s
+marked-entry : (mode : Mode) (D S : Machine) (l : List ℕ) (t s : ℕ) → t < D .n → s < S .n → markAt (S .n) (overwrite (marks mode D S) l) t s ≡ mark mode D S t s
 marked-entry mode D S l t s p q =
     overwrite-entry (marks mode D S) l (t * S .n + s) (omega (arith, digits-lt p q, length-marks mode D S)) ∙ marks-entry mode D S t s p q
 
+-- so the slice has the marks
+pub has-marks : (mode : Mode) (D S : Machine) (entry : List ℕ) {exit : List ℕ} → exit ≡ overwrite (marks mode D S) entry → HasMarks mode D S exit
+has-marks mode D S entry e = record { each = λ t s l k. ap (λ (x : List ℕ). markAt (S .n) x t s) e ∙ marked-entry mode D S entry t s l k }
+
 module _ (s : List ℕ) (q : Question) (mode : ℕ) where
-  -- by a number before 15
-  pub early-fault : (r : Refusal) (room : ℕ) → pairChecks s q ≡ Fault r → decideChecks s q mode room ≡ Fault r
-  unfolding decideChecks _then_
-  early-fault r room e = rw e refl
+  -- by what opening finds, and by a number before 14
+  module _ (o : Opened) (e : opened o ≡ openOf s) where
+    pub decision-refused : (r : Refusal) (room : ℕ) → o ≡ Refused r → decideChecks s q mode room ≡ Fault r
+    unfolding decideChecks _then_
+    decision-refused r room p = rw (refused-fault s r (rw p at e)) refl
 
-  -- by a number up to 15, in an opened file
-  module _ (o : Opened) (e : opened o ≡ openOf s) (k : ℕ) (c : Checked) (p : o ≡ Tables k) (f : c ≡ (pairFault s k q then fault (ltb 1 mode) 15 0)) where
-    pub decision-fault : (r : Refusal) (room : ℕ) → c ≡ Fault r → decideChecks s q mode room ≡ Fault r
-    unfolding decideChecks pairChecks _then_
-    decision-fault r room g =
-        let (file, tables) = tables-passed s k (rw p at e) in
-        let short : Checked = fault (ltb room (demandOf s q .n * supplyOf s q .n)) 14 0 in
-        rw (file, tables) (sym (then-assoc (pairFault s k q) (fault (ltb 1 mode) 15 0) short) ∙ ap (λ (x : Checked). x then short) (sym f ∙ g))
+    module _ (k : ℕ) (c : Checked) (p : o ≡ Tables k) (f : c ≡ decideFault s k q mode) where
+      pub decision-fault : (r : Refusal) (room : ℕ) → c ≡ Fault r → decideChecks s q mode room ≡ Fault r
+      unfolding decideChecks _then_
+      decision-fault r room g =
+          let (file, tables) = tables-passed s k (rw p at e) in
+          rw (file, tables) (ap (λ (x : Checked). x then fault (ltb room (demandOf s q .n * supplyOf s q .n)) 14 0) (sym f ∙ g))
 
-    pub decision-asked : c ≡ Passed → PairAccepted s q × (mode ≤ 1)
-    decision-asked g = (
-      pair-asked s q o e k (pairFault s k q) p refl (then-left _ _ (sym f ∙ g)),
-      ltb-false 1 mode (fault-passed _ _ _ (then-right _ _ (sym f ∙ g))),
-    )
+      pub decision-asked : c ≡ Passed → PairAccepted s q × (mode ≤ 1)
+      unfolding decideFault
+      decision-asked g = (
+        pair-asked s q o e k (pairFault s k q) p refl (then-left _ _ (sym f ∙ g)),
+        ltb-false 1 mode (fault-passed _ _ _ (then-right _ _ (sym f ∙ g))),
+      )
+
+  -- where no number applies, the pair was asked about
+  pub decide-asked : (room : ℕ) → decideChecks s q mode room ≡ Passed → PairAccepted s q
+  unfolding decideChecks decideFault
+  decide-asked room e = record { file = then-left _ _ e; pair = then-left _ _ (then-left _ _ (then-right _ _ e)) }
 
   -- turned back: the refusal is the answer, and the slice is unchanged
   pub turned-back : (r : Refusal) (entry : List ℕ) → decideChecks s q mode (length entry) ≡ Fault r
@@ -69,22 +77,26 @@ module _ (s : List ℕ) (q : Question) (mode : ℕ) where
 
   module _ (a : PairAccepted s q) where
     module _ (known : mode ≤ 1) where
+      no-fault : decideFault s (tablesOf s) q mode ≡ Passed
+      unfolding decideFault _then_ fault
+      no-fault = rw (a .pair, le-ltb 1 mode known) refl
+
       -- the entries of the two tables, as they are read
       module _ (d : Entry) (e : d ≡ entryOf s (q .demand .table)) (u : Entry) (f : u ≡ entryOf s (q .supply .table)) where
-        pairs-are : d .states * u .states ≡ demandOf s q .n * supplyOf s q .n
+        pub pairs-are : d .states * u .states ≡ demandOf s q .n * supplyOf s q .n
         pairs-are = ap₂ (λ (x y : Entry). x .states * y .states) e f
 
         pub short-fault : (room : ℕ) → room < d .states * u .states → decideChecks s q mode room ≡ Fault (refuse 14 0)
         unfolding decideChecks _then_ fault
         short-fault room l =
             let short : room < demandOf s q .n * supplyOf s q .n = omega (arith, pairs-are) in
-            rw (asked-checks s q a, le-ltb 1 mode known, lt-ltb room (demandOf s q .n * supplyOf s q .n) short) refl
+            rw (a .file, no-fault, lt-ltb room (demandOf s q .n * supplyOf s q .n) short) refl
 
         pub none-fault : (room : ℕ) → d .states * u .states ≤ room → decideChecks s q mode room ≡ Passed
         unfolding decideChecks _then_ fault
         none-fault room l =
             let long : demandOf s q .n * supplyOf s q .n ≤ room = omega (arith, pairs-are) in
-            rw (asked-checks s q a, le-ltb 1 mode known, le-ltb room (demandOf s q .n * supplyOf s q .n) long) refl
+            rw (a .file, no-fault, le-ltb room (demandOf s q .n * supplyOf s q .n) long) refl
 
         -- the bodies, as they are found
         module _ (b : List ℕ) (part : b ≡ take (bodyLength d) (drop (d .offset) s)) (g : List ℕ) (piece : g ≡ take (bodyLength u) (drop (u .offset) s)) where

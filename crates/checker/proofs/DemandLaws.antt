@@ -1,7 +1,8 @@
--- What Decide answers and leaves meets the second and the third demand. Relies on the laws of marks, of runs and of Decide.
-use Prim.Native.Nat.{ℕ, suc, _+_, _*_, _≤_, _<_}
-use mathlib.Core.Path.{_≡_, refl, sym, ap, ap₂, _∙_, subst}
-use mathlib.Core.Bool.{Bool, true, false, not, _&&_}
+-- What Decide answers and leaves meets the second and the third demand; the part on marks is Run's too. Relies on the laws of marks, of runs and
+-- of Decide.
+use Prim.Native.Nat.{ℕ, suc, _≤_, _<_}
+use mathlib.Core.Path.{_≡_, refl, sym, ap, _∙_, subst}
+use mathlib.Core.Bool.{Bool, true, not, _&&_}
 use mathlib.Core.List.{List, [], _∷_}
 use mathlib.Core.Logic.{_↔_}
 use native.Mathlib.Omega.{arith}
@@ -13,7 +14,7 @@ use Rattle.rules.specs.Below.{maxBelow, one}
 use Rattle.rules.specs.Slices.{overwrite}
 use Rattle.rules.specs.Machines.{Machine, Sound}
 use Rattle.rules.specs.Relations.{Pairs, Passing, Meets}
-use Rattle.rules.specs.Rounds.{Kept, KeptSet, mark, markAt, marks, countPairs, keptCount, struckCount, rounds}
+use Rattle.rules.specs.Rounds.{KeptSet, mark, markAt, marks, countPairs, keptCount, struckCount, rounds}
 use Rattle.rules.specs.Runs.{Free}
 use Rattle.rules.proofs.Booleans.{T-true, T-false, true-T, eq-T, and-i, and-l, and-r}
 use Rattle.rules.proofs.BelowLaws.{count-cong, max-cong, one-same}
@@ -21,31 +22,30 @@ use Rattle.rules.proofs.RelationLaws.{holds-mono}
 use Rattle.rules.proofs.RoundLaws.{below-pair}
 use Rattle.rules.proofs.MarkLaws.{mark-zero, mark-round, kept-set-meets, kept-set-largest, rounds-struck}
 use Rattle.rules.proofs.RunLaws.{kept-free}
-use Rattle.tables.specs.declared.Refusal.{Refusal}
 use Rattle.tables.specs.declared.Checked.{Checked}
 use Rattle.tables.specs.declared.Checked.the-variants.{Passed, Fault}
 use Rattle.tables.specs.Answers.{Answer, answer, carriedOut}
-use Rattle.tables.proofs.CheckLaws.{then-left}
+use Rattle.marks.specs.Rounds.{HasMarks}
 use Rattle.checker.specs.declared.Question.{Question}
 use Rattle.checker.specs.declared.Decided.{Decided}
 use Rattle.checker.specs.Answers.{decided, sliceAfter}
 use Rattle.checker.specs.Pairs.{PairAccepted, demandOf, supplyOf}
 use Rattle.checker.specs.Decide.{modeOf, decideChecks, decideAnswer, decideSlice}
 use Rattle.checker.specs.Demands.{KeptIn, MarksDemand, SecondDemand, ThirdDemand, ThirdDemandAll}
-use Rattle.checker.proofs.PairLaws.{checks-asked, asked-demand, asked-supply, table-at-sound}
-use Rattle.checker.proofs.DecideLaws.{marked-entry}
+use Rattle.checker.proofs.PairLaws.{asked-demand, asked-supply, table-at-sound}
+use Rattle.checker.proofs.DecideLaws.{has-marks, decide-asked}
 
 -- ---- marks that are written
 
-pub marks-demand : (mode : Mode) (D S : Machine) (slice : List ℕ) → ((u w : ℕ) → u < D .n → w < S .n → markAt (S .n) slice u w ≡ mark mode D S u w) → MarksDemand mode D S slice
+pub marks-demand : (mode : Mode) (D S : Machine) (slice : List ℕ) → HasMarks mode D S slice → MarksDemand mode D S slice
 marks-demand mode D S slice marked = record {
   struck = λ k u w l m. (
-    λ e. mark-round mode D S k u w .0 (sym (marked u w l m) ∙ e),
-    λ r. marked u w l m ∙ mark-round mode D S k u w .1 r,
+    λ e. mark-round mode D S k u w .0 (sym (marked .each u w l m) ∙ e),
+    λ r. marked .each u w l m ∙ mark-round mode D S k u w .1 r,
   );
   kept = λ u w l m. (
-    λ e. mark-zero mode D S u w (below-pair D S u w l m) .0 (sym (marked u w l m) ∙ e),
-    λ f. marked u w l m ∙ mark-zero mode D S u w (below-pair D S u w l m) .1 f,
+    λ e. mark-zero mode D S u w (below-pair D S u w l m) .0 (sym (marked .each u w l m) ∙ e),
+    λ f. marked .each u w l m ∙ mark-zero mode D S u w (below-pair D S u w l m) .1 f,
   );
 }
 
@@ -56,14 +56,14 @@ pub record Tells (mode : Mode) (D S : Machine) (t s verdict kept highest : ℕ) 
   pub yes : verdict ≡ one (eqb (mark mode D S t s) 0)
   pub kept-are : kept ≡ keptCount mode D S
   pub rounds-are : highest ≡ rounds mode D S
-  pub marked : (u w : ℕ) → u < D .n → w < S .n → markAt (S .n) slice u w ≡ mark mode D S u w
+  pub marked : HasMarks mode D S slice
 
 module _ (mode : Mode) (D S : Machine) (t s verdict kept highest : ℕ) (slice : List ℕ) (h : Tells mode D S t s verdict kept highest slice) where
   to-kept : (u w : ℕ) → KeptSet mode D S u w → KeptIn D S slice u w
-  to-kept u w (l, k, e) = (l, k, h .marked u w l k ∙ e)
+  to-kept u w (l, k, e) = (l, k, h .marked .each u w l k ∙ e)
 
   from-kept : (u w : ℕ) → KeptIn D S slice u w → KeptSet mode D S u w
-  from-kept u w (l, k, e) = (l, k, sym (h .marked u w l k) ∙ e)
+  from-kept u w (l, k, e) = (l, k, sym (h .marked .each u w l k) ∙ e)
 
   kept-meets : Meets mode D S (KeptIn D S slice)
   kept-meets = record {
@@ -74,7 +74,7 @@ module _ (mode : Mode) (D S : Machine) (t s verdict kept highest : ℕ) (slice :
   kept-counted : kept ≡ countPairs D S (λ u w. eqb (markAt (S .n) slice u w) 0)
   unfolding keptCount
   kept-counted =
-      h .kept-are ∙ count-cong D S (λ u w. eqb (mark mode D S u w) 0) (λ u w. eqb (markAt (S .n) slice u w) 0) (λ u w l k. ap (λ (x : ℕ). eqb x 0) (sym (h .marked u w l k)))
+      h .kept-are ∙ count-cong D S (λ u w. eqb (mark mode D S u w) 0) (λ u w. eqb (markAt (S .n) slice u w) 0) (λ u w l k. ap (λ (x : ℕ). eqb x 0) (sym (h .marked .each u w l k)))
 
   -- a yes: the start is in the kept set
   yes-kept : verdict ≡ 1 → KeptIn D S slice t s
@@ -138,12 +138,12 @@ module _ (mode : Mode) (D S : Machine) (t s verdict kept highest : ℕ) (slice :
   highest-mark =
       h .rounds-are
       ∙ max-cong (D .n) (λ u. maxBelow (S .n) (λ w. mark mode D S u w)) (λ u. maxBelow (S .n) (λ w. markAt (S .n) slice u w))
-      (λ u l. max-cong (S .n) (λ w. mark mode D S u w) (λ w. markAt (S .n) slice u w) (λ w k. sym (h .marked u w l k)))
+      (λ u l. max-cong (S .n) (λ w. mark mode D S u w) (λ w. markAt (S .n) slice u w) (λ w k. sym (h .marked .each u w l k)))
 
   few : highest ≤ countPairs D S (λ u w. not (eqb (markAt (S .n) slice u w) 0))
   unfolding struckCount
   few =
-      let same = count-cong D S (λ u w. not (eqb (mark mode D S u w) 0)) (λ u w. not (eqb (markAt (S .n) slice u w) 0)) (λ u w l k. ap (λ (x : ℕ). not (eqb x 0)) (sym (h .marked u w l k))) in
+      let same = count-cong D S (λ u w. not (eqb (mark mode D S u w) 0)) (λ u w. not (eqb (markAt (S .n) slice u w) 0)) (λ u w l k. ap (λ (x : ℕ). not (eqb x 0)) (sym (h .marked .each u w l k))) in
       let are = h .rounds-are in
       omega (arith, rounds-struck mode D S)
 
@@ -165,7 +165,7 @@ module _ (mode : Mode) (D S : Machine) (t s verdict kept highest : ℕ) (slice :
         )),
       )
 
--- ---- of a call of Decide
+-- ---- of a call
 
 -- a call that returns values passed its checks
 pub passed : (c : Checked) (x : ℕ) (xs values : List ℕ) → answer c values ≡ carriedOut (x ∷ xs) → (c ≡ Passed) × (values ≡ x ∷ xs)
@@ -186,8 +186,7 @@ module _ (file : List ℕ) (q : Question) (mode : ℕ) (entry exit : List ℕ) (
   outcome = passed (decideChecks file q mode (length entry)) _ _ _ told
 
   asked : PairAccepted file q
-  unfolding decideChecks
-  asked = checks-asked file q (then-left _ _ (outcome .0))
+  asked = decide-asked file q mode (length entry) (outcome .0)
 
   written : exit ≡ overwrite (marks (modeOf mode) D S) entry
   unfolding decideSlice
@@ -199,7 +198,7 @@ module _ (file : List ℕ) (q : Question) (mode : ℕ) (entry exit : List ℕ) (
     yes = sym (ap (λ (l : List ℕ). getD l 0 0) (outcome .1));
     kept-are = sym (ap (λ (l : List ℕ). getD l 1 0) (outcome .1));
     rounds-are = sym (ap (λ (l : List ℕ). getD l 2 0) (outcome .1));
-    marked = λ u w l k. ap (λ (x : List ℕ). markAt (S .n) x u w) written ∙ marked-entry (modeOf mode) D S entry u w l k;
+    marked = has-marks (modeOf mode) D S entry written;
   }
 
   pub second-demand : SecondDemand (modeOf mode) D S (q .demand .state) (q .supply .state) verdict highest exit

@@ -1,6 +1,6 @@
 -- Laws of questions about a pair: what turns them back, and what the two bodies hold where nothing does. Relies on what Open guarantees.
 use Prim.Native.Nat.{ℕ, _+_, _*_, _/_, _≤_, _<_}
-use mathlib.Core.Path.{_≡_, refl, sym, ap, ap₂, _∙_, subst}
+use mathlib.Core.Path.{_≡_, sym, ap, ap₂, _∙_, subst}
 use mathlib.Core.Bool.{Bool, false}
 use mathlib.Core.List.{List}
 use native.Mathlib.Omega.{arith}
@@ -19,7 +19,7 @@ use Rattle.tables.specs.Checks.{fault, _then_}
 use Rattle.tables.specs.Answers.{opened}
 use Rattle.tables.specs.File.{tablesOf, entryOf, bodyLength, bodyOf}
 use Rattle.tables.specs.Open.{openOf, fileFault}
-use Rattle.tables.specs.Accepted.{TableBody, Accepted, Laid}
+use Rattle.tables.specs.Accepted.{TableBody, Accepted}
 use Rattle.tables.specs.Tables.{rowsOf, machineOf}
 use Rattle.tables.proofs.CheckLaws.{fault-passed, then-left, then-right}
 use Rattle.tables.proofs.AcceptedLaws.{tables-passed, refused-fault, passed-accepted, accepted-laid}

@@ -1,6 +1,6 @@
 -- Laws of Run: the answer and the two slices, by what the checks find; and the run that they show. Relies on the laws of Decide and of runs.
-use Prim.Native.Nat.{ℕ, suc, _*_, _≤_, _<_}
-use mathlib.Core.Path.{_≡_, refl, sym, ap, ap₂, _∙_}
+use Prim.Native.Nat.{ℕ, _*_, _≤_, _<_}
+use mathlib.Core.Path.{_≡_, refl, sym, ap, _∙_}
 use mathlib.Core.List.{List, [], _∷_}
 use native.Mathlib.Omega.{arith}
 use lib.ListN.{length, getD, take, drop}
@@ -9,7 +9,7 @@ use borrow.Author.Tests.{lt-ltb, le-ltb}
 use Rattle.rules.specs.declared.Mode.{Mode}
 use Rattle.rules.specs.Slices.{overwrite}
 use Rattle.rules.specs.Machines.{Machine}
-use Rattle.rules.specs.Rounds.{mark, markAt, marks}
+use Rattle.rules.specs.Rounds.{mark, marks}
 use Rattle.rules.specs.Steps.{IsRun, slots, steps}
 use Rattle.rules.proofs.MachineLaws.{moves-rise}
 use Rattle.rules.proofs.StepLaws.{run-is, run-length, run-blocked, length-steps}
@@ -24,7 +24,6 @@ use Rattle.tables.specs.Tables.{tableOf}
 use Rattle.tables.proofs.CheckLaws.{then-left}
 use Rattle.marks.specs.declared.Sizes.{Sizes}
 use Rattle.marks.specs.Rounds.{demandIn, supplyIn, marksIn}
-use Rattle.runs.specs.Walks.{HasMarks}
 use Rattle.checker.specs.declared.Question.{Question}
 use Rattle.checker.specs.declared.Counted.{Counted}
 use Rattle.checker.specs.Answers.{counted, sliceAfter}
@@ -32,8 +31,8 @@ use Rattle.checker.specs.Pairs.{PairAccepted, demandOf, supplyOf}
 use Rattle.checker.specs.Decide.{modeOf, decideChecks}
 use Rattle.checker.specs.Run.{runChecks, runAnswer, runMarks, runSteps}
 use Rattle.checker.specs.Demands.{RunDemand}
-use Rattle.checker.proofs.PairLaws.{checks-asked, asked-demand, asked-supply, table-at-sound}
-use Rattle.checker.proofs.DecideLaws.{marked-entry, none-fault, demand-is, supply-is}
+use Rattle.checker.proofs.PairLaws.{asked-demand, asked-supply, table-at-sound}
+use Rattle.checker.proofs.DecideLaws.{has-marks, decide-asked, pairs-are, none-fault, demand-is, supply-is}
 use Rattle.checker.proofs.DemandLaws.{marks-demand, passed}
 
 module _ (s : List ℕ) (q : Question) (mode : ℕ) where
@@ -50,26 +49,19 @@ module _ (s : List ℕ) (q : Question) (mode : ℕ) where
 
   module _ (a : PairAccepted s q) (known : mode ≤ 1) (d : Entry) (e : d ≡ entryOf s (q .demand .table)) (u : Entry) (f : u ≡ entryOf s (q .supply .table))
       (room : ℕ) (long : d .states * u .states ≤ room) where
-    pairs-are : d .states * u .states ≡ demandOf s q .n * supplyOf s q .n
-    pairs-are = ap₂ (λ (x y : Entry). x .states * y .states) e f
-
     pub steps-fault : (more : ℕ) → more < 2 * (d .states * u .states) → runChecks s q mode room more ≡ Fault (refuse 14 0)
     unfolding runChecks _then_ fault
     steps-fault more l =
-        let short : more < 2 * (demandOf s q .n * supplyOf s q .n) = omega (arith, pairs-are) in
+        let short : more < 2 * (demandOf s q .n * supplyOf s q .n) = omega (arith, pairs-are s q mode a known d e u f) in
         rw (none-fault s q mode a known d e u f room long, lt-ltb more (2 * (demandOf s q .n * supplyOf s q .n)) short) refl
 
     no-fault : (more : ℕ) → 2 * (d .states * u .states) ≤ more → runChecks s q mode room more ≡ Passed
     unfolding runChecks _then_ fault
     no-fault more l =
-        let enough : 2 * (demandOf s q .n * supplyOf s q .n) ≤ more = omega (arith, pairs-are) in
+        let enough : 2 * (demandOf s q .n * supplyOf s q .n) ≤ more = omega (arith, pairs-are s q mode a known d e u f) in
         rw (none-fault s q mode a known d e u f room long, le-ltb more (2 * (demandOf s q .n * supplyOf s q .n)) enough) refl
 
 -- ---- carried out
-
--- the marks that were written are read
-pub has-marks : (mode : Mode) (D S : Machine) (entry : List ℕ) {exit : List ℕ} → exit ≡ overwrite (marks mode D S) entry → HasMarks mode D S exit
-has-marks mode D S entry e = record { each = λ t s l k. ap (λ (x : List ℕ). markAt (S .n) x t s) e ∙ marked-entry mode D S entry t s l k }
 
 module _ (s : List ℕ) (q : Question) (mode : ℕ) (a : PairAccepted s q) (known : mode ≤ 1) (d : Entry) (e : d ≡ entryOf s (q .demand .table)) (u : Entry) (f : u ≡ entryOf s (q .supply .table))
     (b : List ℕ) (part : b ≡ take (bodyLength d) (drop (d .offset) s)) (g : List ℕ) (piece : g ≡ take (bodyLength u) (drop (u .offset) s))
@@ -113,8 +105,8 @@ module _ (file : List ℕ) (q : Question) (mode : ℕ) (first second : List ℕ)
   outcome = passed (runChecks file q mode (length first) (length second)) _ _ _ told
 
   asked : PairAccepted file q
-  unfolding runChecks decideChecks
-  asked = checks-asked file q (then-left _ _ (then-left _ _ (outcome .0)))
+  unfolding runChecks
+  asked = decide-asked file q mode (length first) (then-left _ _ (outcome .0))
 
   start-mark : mark (modeOf mode) D S t w ≡ count
   start-mark = ap (λ (l : List ℕ). getD l 0 0) (outcome .1)
@@ -145,7 +137,7 @@ module _ (file : List ℕ) (q : Question) (mode : ℕ) (first second : List ℕ)
     rows = steps-first;
     many = run-length (modeOf mode) D S run ∙ start-mark;
     start = sym start-mark ∙ sym (has-marks (modeOf mode) D S first marks-written .each t w (asked-demand file q asked .state) (asked-supply file q asked .state));
-    marks-are = marks-demand (modeOf mode) D S marked (has-marks (modeOf mode) D S first marks-written .each);
+    marks-are = marks-demand (modeOf mode) D S marked (has-marks (modeOf mode) D S first marks-written);
     is-run = run;
     blocked = λ f. run-blocked (modeOf mode) D S run (λ z. f (sym start-mark ∙ z));
   }

@@ -1,5 +1,5 @@
-// The calls about a pair of states, as document 01 lists them. Each opens the file, turns back what must be turned back, and has one crate
-// below work out the answer. Nothing is asked of the caller. Relies on `rules` for the meaning, on `tables` for the file, on `moves` for the
+// The calls about a pair of states, as document 01 lists them. Each opens the file, turns back what must be turned back, and has the
+// crates below work out the answer. Nothing is asked of the caller. Relies on `rules` for the meaning, on `tables` for the file, on `moves` for the
 // surviving moves of a pair, on `marks` for the marks of all pairs and on `runs` for the run that shows a no.
 ghost use Prim.Native.Nat.{ℕ};
 ghost use mathlib.Core.Path.{_≡_};

@@ -1,13 +1,11 @@
 // Questions about a pair of states: what turns them back after opening, and their answers where nothing does.
 ghost use mathlib.Core.Path.{_≡_};
-ghost use lib.Dec.{ltb};
 ghost use lib.ListN.{length};
 ghost use Prim.Native.Nat.{_≤_};
-ghost use Rattle.tables.specs.Checks.{fault, _then_};
 ghost use Rattle.checker.specs.Answers.{counted, decided};
 ghost use Rattle.checker.specs.Pairs.{pairFault, PairAccepted};
 ghost use Rattle.checker.specs.Moves.{movesAnswer, movesSlice};
-ghost use Rattle.checker.specs.Decide.{modeOf, decideAnswer, decideSlice};
+ghost use Rattle.checker.specs.Decide.{modeOf, decideFault, decideAnswer, decideSlice};
 ghost use Rattle.checker.specs.Run.{runAnswer, runMarks, runSteps};
 use crate::Counted;
 use crate::Decided;
@@ -51,7 +49,7 @@ pub(crate) fn check_pair(file: &[u8], k: usize, question: Question) -> Checked
 
 // What turns back a question about a pair in a mode, in a file of k tables.
 pub(crate) fn check_decision(file: &[u8], k: usize, question: Question, mode: usize) -> Checked
-    ensures { λ r. ⌜ r ≡ (pairFault (now (file .entry)) k question then fault (ltb 1 mode) 15 0) ⌝ }
+    ensures { λ r. ⌜ r ≡ decideFault (now (file .entry)) k question mode ⌝ }
 {
     if let Checked::Fault(refusal) = check_pair(file, k, question) {
         return Checked::Fault(refusal);

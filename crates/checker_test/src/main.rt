@@ -22,7 +22,7 @@ pub(crate) const CHOICES: [u8; 30] =
     *b"\x02\x00\x01\x03\x03\x00\x0E\x00\x02\x02\x01\x00\x1A\x00\x01\x02\x01\x00\x01\x00\x02\x00\x02\x00\x01\x00\x01\x00\x03\x00";
 
 // Eight demands, each with a supply after it. 0: two equal requests, of which the second leads to the later mark. 2: a supply whose lower row
-// forces nothing in partial mode. 4: FIN only, beside a supply with three rows, of which the first leads back, and a stuck state. 6: choices
+// has a maximal response to a kept pair. 4: FIN only, beside a supply with three rows, of which the first leads back, and a stuck state. 6: choices
 // whose runs in the two modes differ. 8: a supply with two rows that have no response, after one that has. 10: a response that is not
 // maximal before one that is. 12: a task that idles while the supply comes to be stuck. 14: two responses to the same mark, beside FIN.
 pub(crate) const RUNS: [u8; 206] =

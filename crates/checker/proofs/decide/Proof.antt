@@ -1,7 +1,6 @@
 -- `checker::decide` meets its contract. What opening finds is handed on; then what turns back the pair or the mode; then the engine answers.
 use Rattle.checker.specs.declared.Decided.the-variants.{Refused}
-use Rattle.checker.proofs.PairLaws.{pair-refused}
-use Rattle.checker.proofs.DecideLaws.{early-fault, decision-fault, decision-asked, turned-back}
+use Rattle.checker.proofs.DecideLaws.{decision-refused, decision-fault, decision-asked, turned-back}
 use Rattle.checker.proofs.DemandLaws.{demands}
 use borrow.Author.Needs.{needs}
 use Rattle.checker.proofs.decide.Statement.{statement}
@@ -20,7 +19,7 @@ refusal-of-requires : tie.Need-refusal-of-requires
 refusal-of-requires c κs = search needs
 
 returns : tie.Need-returns
-returns c = rw (c .refusal-of .ensures, c .before .enum-told .given .1) (demands _ _ _ _ _ (Refused _) (turned-back _ _ _ _ _ (early-fault _ _ _ _ _ (pair-refused _ _ _ (c .before .before .before .«open» .ensures) _ (c .before .enum-told .given .1)))))
+returns c = rw (c .refusal-of .ensures, c .before .enum-told .given .1) (demands _ _ _ _ _ (Refused _) (turned-back _ _ _ _ _ (decision-refused _ _ _ _ (c .before .before .before .«open» .ensures) _ _ (c .before .enum-told .given .1))))
 
 check-decision-requires : tie.Need-check-decision-requires
 check-decision-requires c κs = search needs

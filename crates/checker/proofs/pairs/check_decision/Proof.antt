@@ -1,7 +1,8 @@
 -- `checker::pairs::check_decision` meets its contract.
-use mathlib.Core.Path.{refl, sym}
+use mathlib.Core.Path.{refl}
 use borrow.Author.Tests.{lt-ltb, le-ltb}
 use Rattle.tables.specs.Checks.{fault, _then_}
+use Rattle.checker.specs.Decide.{decideFault}
 use borrow.Author.Needs.{needs}
 use Rattle.checker.proofs.pairs.check_decision.Statement.{statement}
 use Rattle.checker.proofs.pairs.check_decision.Tie as tie
@@ -13,7 +14,7 @@ enum-known-refusal : tie.Need-enum-known-refusal
 enum-known-refusal c = search needs
 
 returns : tie.Need-returns
-unfolding _then_
+unfolding decideFault _then_
 returns c = rw (← c .before .before .before .check-pair .ensures, c .before .refusal .given .1) refl
 
 enum-told : tie.Need-enum-told
@@ -23,11 +24,11 @@ new-requires : tie.Need-new-requires
 new-requires c κs = search needs
 
 returns-2 : tie.Need-returns-2
-unfolding _then_ fault
+unfolding decideFault _then_ fault
 returns-2 c = rw (← c .before .before .before .before .check-pair .ensures, c .before .before .enum-told .given .1, lt-ltb _ _ (c .before .if1 .taken), c .new .ensures) refl
 
 returns-3 : tie.Need-returns-3
-unfolding _then_ fault
+unfolding decideFault _then_ fault
 returns-3 c = rw (← c .before .before .before .check-pair .ensures, c .before .enum-told .given .1, le-ltb _ _ (c .if1 .left)) refl
 
 pub check-decision-spec : {M : Type 1} → statement M

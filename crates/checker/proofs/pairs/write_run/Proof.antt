@@ -3,12 +3,11 @@ use native.Mathlib.Omega.{arith}
 use Rattle.tables.specs.Checks.{refuse}
 use Rattle.marks.proofs.RoundLaws.{few-pairs}
 use Rattle.checker.proofs.PairLaws.{asked-demand, asked-supply, states-few, state-below, state-narrow, body-within}
-use Rattle.checker.proofs.DecideLaws.{short-fault, two-tables}
-use Rattle.checker.proofs.RunLaws.{decide-fault, run-turned-back, steps-fault, has-marks, run-carried-out}
+use Rattle.checker.proofs.DecideLaws.{has-marks, short-fault, two-tables}
+use Rattle.checker.proofs.RunLaws.{decide-fault, run-turned-back, steps-fault, run-carried-out}
 use borrow.Author.Needs.{needs}
 use Rattle.checker.proofs.pairs.write_run.Statement.{statement}
 use Rattle.checker.proofs.pairs.write_run.Tie as tie
-use Rattle.runs.proofs.write.Reads as write-reads′
 
 entry-at-requires : tie.Need-entry-at-requires
 entry-at-requires c κs = search needs
