@@ -1,5 +1,6 @@
 -- `checker::pairs::check_decision` meets its contract.
 use mathlib.Core.Path.{refl}
+use native.Mathlib.Omega.{arith}
 use borrow.Author.Tests.{lt-ltb, le-ltb}
 use Rattle.tables.specs.Checks.{fault, _then_}
 use Rattle.checker.specs.Decide.{decideFault}
@@ -25,11 +26,11 @@ new-requires c κs = search needs
 
 returns-2 : tie.Need-returns-2
 unfolding decideFault _then_ fault
-returns-2 c = rw (← c .before .before .before .before .check-pair .ensures, c .before .before .enum-told .given .1, lt-ltb _ _ (c .before .if1 .taken), c .new .ensures) refl
+returns-2 c = rw (← c .before .before .before .before .check-pair .ensures, c .before .before .enum-told .given .1, lt-ltb 1 (c .before .before .before .before .before .before .args .mode) (let above = c .before .if1 .taken in omega arith), c .new .ensures) refl
 
 returns-3 : tie.Need-returns-3
 unfolding decideFault _then_ fault
-returns-3 c = rw (← c .before .before .before .check-pair .ensures, c .before .enum-told .given .1, le-ltb _ _ (c .if1 .left)) refl
+returns-3 c = rw (← c .before .before .before .check-pair .ensures, c .before .enum-told .given .1, le-ltb 1 (c .before .before .before .before .before .args .mode) (let known = c .if1 .left in omega arith)) refl
 
 pub check-decision-spec : {M : Type 1} → statement M
 check-decision-spec =

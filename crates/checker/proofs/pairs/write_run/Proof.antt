@@ -37,7 +37,7 @@ new-requires-2 : tie.Need-new-requires-2
 new-requires-2 c κs = search needs
 
 returns-2 : tie.Need-returns-2
-returns-2 c = rw (c .new2 .ensures) (run-turned-back _ _ _ (refuse 14 0) _ _ (steps-fault _ _ _ (c .before .before .before .before .before .before .before .before .before .before .pre .0) (c .before .before .before .before .before .before .before .before .before .before .pre .1) _ (c .before .before .before .before .before .before .entry-at .ensures) _ (c .before .before .before .before .before .entry-at2 .ensures) _ (c .before .before .if1 .left) _ (c .before .if2 .taken)))
+returns-2 c = rw (c .new2 .ensures) (run-turned-back _ _ _ (refuse 14 0) _ _ (steps-fault _ _ _ (c .before .before .before .before .before .before .before .before .before .before .pre .0) (c .before .before .before .before .before .before .before .before .before .before .pre .1) _ (c .before .before .before .before .before .before .entry-at .ensures) _ (c .before .before .before .before .before .entry-at2 .ensures) _ (c .before .before .if1 .left) _ (let short = c .before .if2 .taken in omega arith)))
 
 entry-body-requires : tie.Need-entry-body-requires
 entry-body-requires c κs = body-within _ _ _ (asked-demand _ _ (c .before .before .before .before .before .before .before .before .before .pre .0)) _ (c .before .before .before .before .before .entry-at .ensures)
