@@ -3,3 +3,4 @@ pub mod MovesLaws
 pub mod DecideLaws
 pub mod DemandLaws
 pub mod RunLaws
+pub mod JoinLaws

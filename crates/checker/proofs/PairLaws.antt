@@ -27,6 +27,8 @@ use Rattle.tables.proofs.TableLaws.{body-sound}
 use Rattle.moves.specs.States.{Sorted, machineIn}
 use Rattle.moves.proofs.StateLaws.{body-sorted}
 use Rattle.checker.specs.declared.Question.{Question}
+use Rattle.checker.specs.declared.named.Named.{Named}
+use Rattle.checker.specs.Named.{namedFault}
 use Rattle.checker.specs.Pairs.{pairFault, pairChecks, PairAccepted}
 
 -- ---- what the checks find
@@ -61,7 +63,7 @@ pub record TableAt (s : List ℕ) (i q : ℕ) : Type 0 where
   pub table : TableBody (entryOf s i .states) (entryOf s i .rows) (bodyOf s i)
   pub state : q < entryOf s i .states
 
-table-at : (s : List ℕ) (i q : ℕ) → fileFault s ≡ Passed → i < tablesOf s → q < entryOf s i .states → TableAt s i q
+pub table-at : (s : List ℕ) (i q : ℕ) → fileFault s ≡ Passed → i < tablesOf s → q < entryOf s i .states → TableAt s i q
 table-at s i q p l h =
     let a : Accepted s (tablesOf s) = passed-accepted s p in
     record { within = accepted-laid s (tablesOf s) a .within i l; table = a .table i l; state = h }
@@ -69,29 +71,28 @@ table-at s i q p l h =
 pub table-at-sound : (s : List ℕ) (i q : ℕ) → TableAt s i q → Sound (machineOf s i)
 table-at-sound s i q t = body-sound (entryOf s i .states) (entryOf s i .rows) (bodyOf s i) (t .table)
 
-module _ (s : List ℕ) (q : Question) (a : PairAccepted s q) where
-  -- the six checks, and how each reads where it passes
-  abbrev passes : (t : Bool) (n p : ℕ) (rest : Checked) → fault t n p then rest ≡ Passed → t ≡ false
-  passes t n p rest e = fault-passed t n p (then-left (fault t n p) rest e)
+-- of two tables that a call names, both are in the file
+module _ (s : List ℕ) (k : ℕ) (x y : Named) (e : namedFault s k x y ≡ Passed) where
+  pub first-named : x .table < k
+  unfolding namedFault
+  first-named = leb-false _ _ (fault-passed _ _ _ (then-left _ _ e))
 
+  pub second-named : y .table < k
+  unfolding namedFault
+  second-named = leb-false _ _ (fault-passed _ _ _ (then-left _ _ (then-right _ _ e)))
+
+module _ (s : List ℕ) (q : Question) (a : PairAccepted s q) where
   pub asked-demand : TableAt s (q .demand .table) (q .demand .state)
   unfolding pairFault
   asked-demand =
-      let two = then-right _ _ (a .pair) in
-      let three = then-right _ _ two in
-      let four = then-right _ _ three in
-      let five = then-right _ _ four in
-      table-at s (q .demand .table) (q .demand .state) (a .file) (leb-false _ _ (passes _ _ _ _ (a .pair))) (leb-false _ _ (passes _ _ _ _ five))
+      table-at s (q .demand .table) (q .demand .state) (a .file) (first-named s (tablesOf s) _ _ (then-left _ _ (a .pair)))
+      (leb-false _ _ (fault-passed _ _ _ (then-left _ _ (then-right _ _ (a .pair)))))
 
   pub asked-supply : TableAt s (q .supply .table) (q .supply .state)
   unfolding pairFault
   asked-supply =
-      let two = then-right _ _ (a .pair) in
-      let three = then-right _ _ two in
-      let four = then-right _ _ three in
-      let five = then-right _ _ four in
-      let six = then-right _ _ five in
-      table-at s (q .supply .table) (q .supply .state) (a .file) (leb-false _ _ (passes _ _ _ _ two)) (leb-false _ _ (fault-passed _ _ _ six))
+      table-at s (q .supply .table) (q .supply .state) (a .file) (second-named s (tablesOf s) _ _ (then-left _ _ (a .pair)))
+      (leb-false _ _ (fault-passed _ _ _ (then-right _ _ (then-right _ _ (a .pair)))))
 
 -- ---- its entry and its body
 

@@ -9,6 +9,8 @@ use Rattle.checker.specs.declared.Counted.{Counted}
 use Rattle.checker.specs.declared.Counted.the-variants as counts
 use Rattle.checker.specs.declared.Decided.{Decided}
 use Rattle.checker.specs.declared.Decided.the-variants as decisions
+use Rattle.checker.specs.declared.Joined.{Joined}
+use Rattle.checker.specs.declared.Joined.the-variants as joins
 
 -- the cases of `Counted`: "The count is returned"
 abbrev pub counted : Counted → Answer
@@ -19,6 +21,11 @@ counted (counts.Refused r) = turnedBack r
 abbrev pub decided : Decided → Answer
 decided (decisions.Answered v) = carriedOut (one (v .yes) ∷ v .kept ∷ v .rounds ∷ [])
 decided (decisions.Refused r) = turnedBack r
+
+-- the cases of `Joined`: "n and m are returned"
+abbrev pub joined : Joined → Answer
+joined (joins.Table t) = carriedOut (t .states ∷ t .rows ∷ [])
+joined (joins.Refused r) = turnedBack r
 
 -- what a lent slice holds at the end: "All lent buffers then hold what they held", where a call is turned back
 abbrev pub sliceAfter : Checked → List ℕ → List ℕ → List ℕ

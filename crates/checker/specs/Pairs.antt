@@ -1,9 +1,8 @@
 -- Questions about a pair of states of two tables. Document 01, 'Operations and what they turn back'.
 use Prim.Native.Nat.{ℕ}
 use mathlib.Core.Path.{_≡_}
-use mathlib.Core.Bool.{not}
 use mathlib.Core.List.{List}
-use lib.Dec.{leb, eqb}
+use lib.Dec.{leb}
 use Rattle.rules.specs.Machines.{Machine}
 use Rattle.rules.specs.Moves.{Candidate, survivors}
 use Rattle.tables.specs.declared.Checked.{Checked}
@@ -13,14 +12,12 @@ use Rattle.tables.specs.File.{tablesOf, entryOf}
 use Rattle.tables.specs.Open.{fileFault}
 use Rattle.tables.specs.Tables.{machineOf}
 use Rattle.checker.specs.declared.Question.{Question}
+use Rattle.checker.specs.Named.{namedFault, asDemand, asSupply}
 
 -- "11 for demand, then supply; 12 wrong kind, demand then supply; 13 state not below n, demand then supply", in a file of k tables
 unfoldable pub pairFault : List ℕ → ℕ → Question → Checked
 pairFault s k q =
-    fault (leb k (q .demand .table)) 11 0
-    then fault (leb k (q .supply .table)) 11 0
-    then fault (not (eqb (entryOf s (q .demand .table) .kind) 1)) 12 0
-    then fault (not (eqb (entryOf s (q .supply .table) .kind) 2)) 12 0
+    namedFault s k (asDemand (q .demand .table)) (asSupply (q .supply .table))
     then fault (leb (entryOf s (q .demand .table) .states) (q .demand .state)) 13 0
     then fault (leb (entryOf s (q .supply .table) .states) (q .supply .state)) 13 0
 

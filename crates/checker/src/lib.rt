@@ -1,23 +1,27 @@
-// The calls about a pair of states, as document 01 lists them. Each opens the file, turns back what must be turned back, and has the
+// The calls about a pair of states and about two tables, as document 01 lists them. Each opens the file, turns back what must be turned back, and has the
 // crates below work out the answer. Nothing is asked of the caller. Relies on `rules` for the meaning, on `tables` for the file, on `moves` for the
-// surviving moves of a pair, on `marks` for the marks of all pairs and on `runs` for the run that shows a no.
+// surviving moves of a pair, on `marks` for the marks of all pairs, on `runs` for the run that shows a no and on `joins` for the rows of a join.
 ghost use Prim.Native.Nat.{ℕ};
 ghost use mathlib.Core.Path.{_≡_};
 ghost use mathlib.Core.List.{[], _∷_};
 ghost use lib.ListN.{length};
 ghost use Rattle.tables.specs.Answers.{carriedOut};
-ghost use Rattle.checker.specs.Answers.{counted, decided};
+ghost use Rattle.tables.specs.Tables.{machineOf};
+ghost use Rattle.checker.specs.Answers.{counted, decided, joined};
 ghost use Rattle.checker.specs.Pairs.{demandOf, supplyOf};
 ghost use Rattle.checker.specs.Moves.{movesAnswer, movesSlice};
 ghost use Rattle.checker.specs.Decide.{modeOf, decideAnswer, decideSlice};
 ghost use Rattle.checker.specs.Run.{runAnswer, runMarks, runSteps};
 ghost use Rattle.checker.specs.Demands.{SecondDemand, ThirdDemand, RunDemand};
+ghost use Rattle.checker.specs.Join.{joinAnswer, joinSlice, IsJoin};
 use tables::Checked;
 use tables::Opened;
 use tables::Refusal;
 use tables::open;
 use tables::refusal_of;
 
+mod joining;
+mod named;
 mod pairs;
 
 // One side of a question: the number of a table, and a state of it.
@@ -48,6 +52,18 @@ pub struct Verdict {
 // What Decide answers: its verdict, or why it is turned back.
 pub enum Decided {
     Answered(Verdict),
+    Refused(Refusal),
+}
+
+// How large a table is: `states` is document 01's n, and `rows` its m.
+pub struct TableSize {
+    pub states: usize,
+    pub rows: usize,
+}
+
+// What Join answers: how large the joined table is, or why the call is turned back.
+pub enum Joined {
+    Table(TableSize),
     Refused(Refusal),
 }
 
@@ -104,4 +120,20 @@ pub fn run(
         return Counted::Refused(refusal);
     }
     pairs::write_run(file, question, mode, marks, steps)
+}
+
+// Join: two demand tables, perhaps the same one, as one table whose states are the pairs of their states. Its body is written.
+pub fn join(file: &[u8], first: usize, second: usize, out: &mut [u8]) -> Joined
+    ensures answer { λ r. ⌜ joined r ≡ joinAnswer (now (file .entry)) first second (length (now (out .entry))) ⌝ }
+    ensures slice { λ r. ⌜ now (out .exit) ≡ joinSlice (now (file .entry)) first second (now (out .entry)) ⌝ }
+    ensures table { λ r. ⌜ ((n m : ℕ) → joined r ≡ carriedOut (n ∷ m ∷ []) → IsJoin (machineOf (now (file .entry)) first) (machineOf (now (file .entry)) second) n m (now (out .exit))) ⌝ }
+{
+    let found = open(file);
+    let Opened::Tables(k) = found else {
+        return Joined::Refused(refusal_of(found));
+    };
+    if let Checked::Fault(refusal) = joining::check_join(file, k, first, second) {
+        return Joined::Refused(refusal);
+    }
+    joining::write_join(file, first, second, out)
 }

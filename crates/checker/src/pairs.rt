@@ -11,11 +11,12 @@ use crate::Counted;
 use crate::Decided;
 use crate::Question;
 use crate::Verdict;
+use crate::named::Named;
+use crate::named::check_named;
 use marks::Sizes;
 use moves::rows_of;
 use rules::Mode;
 use tables::Checked;
-use tables::Entry;
 use tables::Refusal;
 use tables::entry_at;
 use tables::entry_body;
@@ -24,20 +25,13 @@ use tables::entry_body;
 pub(crate) fn check_pair(file: &[u8], k: usize, question: Question) -> Checked
     ensures { λ r. ⌜ r ≡ pairFault (now (file .entry)) k question ⌝ }
 {
-    if k <= question.demand.table {
-        return Checked::Fault(Refusal::new(11, 0));
-    }
-    if k <= question.supply.table {
-        return Checked::Fault(Refusal::new(11, 0));
+    let task = Named::demand(question.demand.table);
+    let offer = Named::supply(question.supply.table);
+    if let Checked::Fault(refusal) = check_named(file, k, task, offer) {
+        return Checked::Fault(refusal);
     }
     let demand = entry_at(file, question.demand.table);
     let supply = entry_at(file, question.supply.table);
-    if demand.kind != Entry::DEMAND {
-        return Checked::Fault(Refusal::new(12, 0));
-    }
-    if supply.kind != Entry::SUPPLY {
-        return Checked::Fault(Refusal::new(12, 0));
-    }
     if (demand.states as usize) <= question.demand.state {
         return Checked::Fault(Refusal::new(13, 0));
     }

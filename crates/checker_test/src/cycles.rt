@@ -1,17 +1,19 @@
-// Files of two cycles, whose pairs fall one after the other, and a digest of what a call writes about them.
+// Files of two cycles, whose pairs fall one after the other, and a digest of what a call writes about them; parts of a file.
 
-fn put(file: &mut [u8], at: usize, byte: u8) {
+// Sets a byte, where there is one.
+pub(crate) fn put(file: &mut [u8], at: usize, byte: u8) {
     if at < file.len() {
         file[at] = byte;
     }
 }
 
-// The entry of a table of a cycle: FIN and `states` more, a row each.
-fn put_entry(file: &mut [u8], at: u16, kind: u8, states: u8, body: u16) {
+// The contents entry of a table of so many states and rows.
+pub(crate) fn put_entry(file: &mut [u8], at: u16, kind: u8, states: u8, rows: u16, body: u16) {
     let entry = at as usize;
     put(file, entry, kind);
-    put(file, entry + 1, states % 64 + 1);
-    put(file, entry + 2, states);
+    put(file, entry + 1, states);
+    put(file, entry + 2, (rows % 256) as u8);
+    put(file, entry + 3, (rows / 256) as u8);
     put(file, entry + 4, (body % 256) as u8);
     put(file, entry + 5, (body / 256) as u8);
 }
@@ -42,19 +44,19 @@ fn put_cycle(file: &mut [u8], body: u16, states: u8, usual: u8, last: u8) {
     }
 }
 
-// Two cycles, of so many task and supply states. Of the pairs above FIN only the two last ones have a request, {0, 1}, that the grant, {0}, does
-// not meet; the others fall one after the other.
+// Two cycles, of so many task and supply states, each beside FIN. Of the pairs above FIN only the two last ones have a request, {0, 1}, that the
+// grant, {0}, does not meet; the others fall one after the other.
 pub(crate) fn put_cycles(file: &mut [u8], tasks: u8, offers: u8) {
     let second = 14 + 4 * tasks as u16;
     put(file, 0, 2);
-    put_entry(file, 2, 1, tasks, 14);
-    put_entry(file, 8, 2, offers, second);
+    put_entry(file, 2, 1, tasks % 64 + 1, tasks as u16, 14);
+    put_entry(file, 8, 2, offers % 64 + 1, offers as u16, second);
     put_cycle(file, 14, tasks, 1, 3);
     put_cycle(file, second, offers, 3, 1);
 }
 
 // One step of a digest: the sum so far, and the next entry.
-fn mixed(sum: usize, entry: u16) -> usize {
+pub(crate) fn mixed(sum: usize, entry: u16) -> usize {
     (sum % 65521 * 31 + entry as usize) % 65521
 }
 

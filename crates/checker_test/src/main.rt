@@ -1,8 +1,9 @@
-// Runs the calls about a pair on document 01's file E, on tables drawn for the edges (F, G and H) and on long cycles, and writes every answer, the
-// entries written, and how many of the other entries are unchanged. The file `stdout` beside this folder has the answers that are due. Relies
-// on `checker`.
+// Runs the calls about a pair on document 01's file E, on tables drawn for the edges (F, G and H) and on long cycles, and Join on tables of its own
+// (J and larger ones), and writes every answer, the entries or bytes written, and how many of the others are unchanged. The file `stdout`
+// beside this folder has the answers that are due. Relies on `checker`.
 mod cycles;
 mod decide;
+mod join_of_tables;
 mod lines;
 mod moves_of_pair;
 mod run_of_pair;
@@ -32,4 +33,5 @@ pub fn main() {
     moves_of_pair::run();
     decide::run();
     run_of_pair::run();
+    join_of_tables::run();
 }

@@ -7,12 +7,12 @@ use lib.Dec.{T, T-not, eqb, eqb→eq, ltb, ltb→lt}
 use lib.ListN.{length}
 use Rattle.rules.specs.declared.Row.{Row}
 use Rattle.rules.specs.Lists.{all, isEmpty}
-use Rattle.rules.specs.Sets.{intersection, union, difference, inside, larger, maximal}
+use Rattle.rules.specs.Sets.{intersection, union, disjoint, difference, inside, larger, maximal}
 use Rattle.rules.specs.Rows.{rises}
 use Rattle.rules.specs.Machines.{Table, rowMoves, stateMoves, machine}
 use Rattle.rules.specs.Moves.{leftOf, consumedOf, unmetOf, candidates, prunes, survivorsOf, survivors, numbers}
 use Rattle.rules.specs.Rounds.{hasResponse, slotHolds, pairHolds, isPair, keeps, markBy, mark, marks}
-use Rattle.rules.specs.Join.{insertRow, inOrder, joinMoves, joinRows, join}
+use Rattle.rules.specs.Join.{insertRow, insertRows, joinRows, join}
 use Rattle.rules.specs.Examples.{demandE, supplyE, finOnly, demandFifth, demandSixth, thenFin, once, atMostOnce, repeated, twoSlots, examples}
 use Rattle.rules.specs.Examples.{Example, Means, movesAre, marksAre, saysYes, saysNo, joinIs, joinCount, isStuck}
 use Rattle.rules.proofs.Booleans.{eq-T, and-l, and-r}
@@ -67,8 +67,8 @@ test (movesAre D S t s l) = sameNumbers (flatMap numbers (survivors (machine D) 
 test (marksAre mode D S l) = sameNumbers (marks mode (machine D) (machine S)) l
 test (saysYes mode D S t s) = ltb t (D .n) && (ltb s (S .n) && eqb (mark mode (machine D) (machine S) t s) 0)
 test (saysNo mode D S t s) = ltb t (D .n) && (ltb s (S .n) && not (eqb (mark mode (machine D) (machine S) t s) 0))
-test (joinIs A B J) = sameTable (join A B) J
-test (joinCount A B m) = eqb (length (join A B .rows)) m
+test (joinIs A B J) = sameTable (join (machine A) (machine B)) J
+test (joinCount A B m) = eqb (length (join (machine A) (machine B) .rows)) m
 test (isStuck A q) = ltb q (A .n) && isEmpty (stateMoves (A .rows) q)
 
 empty-list : {A : Type 0} (l : List A) → T (isEmpty l) → l ≡ []
@@ -89,14 +89,14 @@ tested (saysYes mode D S t s) h = states t s (D .n) (S .n) (eqb (mark mode (mach
 tested (saysNo mode D S t s) h =
     states t s (D .n) (S .n) (not (eqb (mark mode (machine D) (machine S) t s) 0))
     (λ h e. T-not (eqb (mark mode (machine D) (machine S) t s) 0) h (eq-T (mark mode (machine D) (machine S) t s) 0 e)) h
-tested (joinIs A B J) h = equal-table (join A B) J h
-tested (joinCount A B m) h = eqb→eq (length (join A B .rows)) m h
+tested (joinIs A B J) h = equal-table (join (machine A) (machine B)) J h
+tested (joinCount A B m) h = eqb→eq (length (join (machine A) (machine B) .rows)) m h
 tested (isStuck A q) h =
     let empty : Bool = isEmpty (stateMoves (A .rows) q) in
     (ltb→lt q (A .n) (and-l (ltb q (A .n)) empty h), empty-list (stateMoves (A .rows) q) (and-r (ltb q (A .n)) empty h))
 
 passed : T (all test examples)
-unfolding examples test sameNumbers sameList sameTable sameRow flatMap demandE supplyE finOnly demandFifth demandSixth thenFin once atMostOnce repeated twoSlots intersection union difference inside larger maximal rises rowMoves stateMoves leftOf consumedOf unmetOf candidates prunes survivorsOf numbers hasResponse slotHolds pairHolds isPair keeps markBy mark marks insertRow inOrder joinMoves joinRows join
+unfolding examples test sameNumbers sameList sameTable sameRow flatMap demandE supplyE finOnly demandFifth demandSixth thenFin once atMostOnce repeated twoSlots intersection union difference inside larger maximal rises rowMoves stateMoves leftOf consumedOf unmetOf candidates prunes survivorsOf numbers hasResponse slotHolds pairHolds isPair keeps markBy mark marks disjoint insertRow insertRows joinRows join
 passed = tt
 
 -- every example of the table holds

@@ -13,4 +13,5 @@ pub mod RoundLaws
 pub mod MarkLaws
 pub mod RunLaws
 pub mod StepLaws
+pub mod JoinLaws
 pub mod ExampleLaws

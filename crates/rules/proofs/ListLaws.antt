@@ -1,9 +1,12 @@
 -- Laws of lists: what `any`, `all`, `first` and `keepIf` mean, and how they and `flatMap` go over elements and over lists end to end. Relies on nothing.
+use Prim.Native.Nat.{ℕ, zero, suc, _<_}
 use mathlib.Core.Path.{_≡_, refl, sym, ap, ap₂, _∙_, subst}
 use mathlib.Core.Bool.{Bool, true, false, not, cond, _&&_, _||_}
 use mathlib.Core.List.{List, [], _∷_, _++_, map, flatMap, append-assoc, List·Memᴰ, List·Memᴰ·head, List·Memᴰ·tail, List·Memᴰ·not-nil, List·Memᴰ·cases-cons, List·Memᴰ·append-cases, Memᴰ·append-left, Memᴰ·append-right}
 use mathlib.Core.Logic.{_⊎_, inl, inr}
+use native.Mathlib.Omega.{arith}
 use lib.Dec.{T}
+use lib.ListN.{length, getD}
 use Rattle.rules.specs.Lists.{any, all, first, isEmpty, consIf, keepIf, Pairwise}
 use Rattle.rules.proofs.Booleans.{T-or, T-true, T-false, or-false-l, or-false-r, and-i, and-l, and-r, or-l, or-r, or-cases, or-assoc, and-assoc}
 
@@ -267,3 +270,21 @@ module _ {A B : Type 0} (Q : A → A → Type 0) (R : B → B → Type 0) where
     where
       later : (u v : B) → List·Memᴰ u (f x) → (z : A) × List·Memᴰ z xs × List·Memᴰ v (f z) → R u v
       later u v m (z, k, n) = across x z (p .0 z k) u v m n
+
+-- ---- elements by their place
+
+module _ {A : Type 0} (d : A) where
+  pub getD-mem : (l : List A) (i : ℕ) → i < length l → List·Memᴰ (getD l i d) l
+  getD-mem [] i h = absurd (omega arith)
+  getD-mem (x ∷ xs) zero h = List·Memᴰ·head refl
+  getD-mem (x ∷ xs) (suc i) h = List·Memᴰ·tail (getD-mem xs i (omega arith))
+
+  pub mem-getD : {l : List A} {x : A} → List·Memᴰ x l → (i : ℕ) × (i < length l) × (getD l i d ≡ x)
+  mem-getD (List·Memᴰ·head e) = (0, omega arith, sym e)
+  mem-getD (List·Memᴰ·tail m) = let (i, h, e) = mem-getD m in (suc i, omega arith, e)
+
+  pub pairwise-getD : (R : A → A → Type 0) (l : List A) → Pairwise R l → (i j : ℕ) → i < j → j < length l → R (getD l i d) (getD l j d)
+  pairwise-getD R [] p i j k h = absurd (omega arith)
+  pairwise-getD R (x ∷ xs) p i zero k h = absurd (omega arith)
+  pairwise-getD R (x ∷ xs) p zero (suc j) k h = p .0 (getD xs j d) (getD-mem xs j (omega arith))
+  pairwise-getD R (x ∷ xs) p (suc i) (suc j) k h = pairwise-getD R xs (p .1) i j (omega arith) (omega arith)

@@ -1,14 +1,14 @@
--- Laws of the order of rows: it is strict and transitive. Relies on nothing.
+-- Laws of the order of rows: it is strict, transitive and total. Relies on nothing.
 use Prim.Native.Nat.{ℕ, _≤_, _<_}
-use mathlib.Core.Path.{_≡_, refl, sym}
+use mathlib.Core.Path.{_≡_, refl, sym, _∙_}
 use mathlib.Core.Bool.{Bool, true, false, _||_, _&&_}
 use mathlib.Core.Logic.{_⊎_, inl, inr}
 use lib.Dec.{T, ltb, ltb→lt, lt→ltb, eqb, eqb→eq}
-use borrow.Author.Tests.{le-ltb, eq-eqb, ne-eqb}
+use borrow.Author.Tests.{le-ltb, ltb-false, eq-eqb, ne-eqb}
 use native.Mathlib.Omega.{arith}
 use Rattle.rules.specs.declared.Row.{Row}
 use Rattle.rules.specs.Rows.{before, rises}
-use Rattle.rules.proofs.Booleans.{T-true, true-T, eq-T, and-i, and-l, and-r, or-l, or-r, or-cases}
+use Rattle.rules.proofs.Booleans.{T-true, true-T, eq-T, and-i, and-l, and-r, or-l, or-r, or-cases, or-false-l}
 
 -- numbers that differ decide
 pub before-differ : (a b : ℕ) (rest : Bool) → (a ≡ b → ⊥) → ltb a b ≡ before a b rest
@@ -71,3 +71,27 @@ rises-from a b s = go (before-cases (a .from) (b .from) (before (a .set) (b .set
     go : (a .from < b .from) ⊎ ((a .from ≡ b .from) × T (before (a .set) (b .set) (ltb (a .target) (b .target)))) → a .from ≤ b .from
     go (inl l) = omega arith
     go (inr e) = let same = e .0 in omega arith
+
+-- neither of two rows comes before the other only where they are equal
+before-not : (a b : ℕ) (rest : Bool) → before a b rest ≡ false → (b ≤ a) × (a ≡ b → rest ≡ false)
+before-not a b rest e =
+    (ltb-false a b (or-false-l (ltb a b) (eqb a b && rest) e), λ same. before-equal a b rest same ∙ e)
+
+pub rises-total : (a b : Row) → rises a b ≡ false → rises b a ≡ false → a ≡ b
+unfolding rises
+rises-total a b p q =
+    let (fl, fr) = before-not (a .from) (b .from) _ p in
+    let (gl, gr) = before-not (b .from) (a .from) _ q in
+    let from : a .from ≡ b .from = omega arith in
+    let (sl, sr) = before-not (a .set) (b .set) _ (fr from) in
+    let (tl, tr) = before-not (b .set) (a .set) _ (gr (sym from)) in
+    let set : a .set ≡ b .set = omega arith in
+    let ul = ltb-false (a .target) (b .target) (sr set) in
+    let vl = ltb-false (b .target) (a .target) (tr (sym set)) in
+    let target : a .target ≡ b .target = omega arith in
+    λ i. record { from = from i; target = target i; set = set i }
+
+-- a row of a lower state comes before
+pub rises-lower : (a b : Row) → a .from < b .from → rises a b ≡ true
+unfolding rises
+rises-lower a b l = T-true _ (lower-before (a .from) (b .from) _ l)

@@ -2,7 +2,7 @@
 -- below 2 ^ w has the resources below w alone. Relies on nothing.
 use Prim.Native.Nat.{ℕ, zero, suc, _+_, _-_, _*_, _/_, _%_, _^_, _≤_, _<_, min, max}
 use mathlib.Core.Path.{_≡_, refl, sym, ap, ap₂, _∙_, subst}
-use mathlib.Core.Bool.{Bool, true, false, not, _&&_, _||_}
+use mathlib.Core.Bool.{Bool, true, false, not, _&&_, _||_, true≢false}
 use mathlib.Core.Logic.{_⊎_, inl, inr}
 use native.Mathlib.Omega.{arith}
 use native.Mathlib.Nat.{div-one, div-div-eq-div-mul, pow-suc, mul-comm, div-eq-of-lt, lt-of-lt-of-le}
@@ -10,8 +10,8 @@ use lib.Dec.{T, T-not, not-T, eqb, eqb→eq, ltb, ltb→lt, nltb→le}
 use lib.Arith.{bin-ind, lt-of-le-ne}
 use lib.Bits.{bitAnd, bitOr, and-step, or-step, and-comm, and-self, and-le-l, and-le-r, and-lt, or-lt}
 use lib.Pow.{pow-mono}
-use Rattle.rules.specs.Sets.{has, intersection, union, difference, inside, larger}
-use Rattle.rules.proofs.Booleans.{T-same, T-false, T-or, eq-T, and-i, and-l, and-r}
+use Rattle.rules.specs.Sets.{has, intersection, union, difference, disjoint, inside, larger}
+use Rattle.rules.proofs.Booleans.{T-same, T-true, T-false, T-or, eq-T, and-i, and-l, and-r}
 
 -- ---- one digit at a time
 
@@ -131,6 +131,30 @@ inside-trans a b c p q = has-inside a c (λ r t. inside-has b c q r (inside-has 
 -- sets with the same resources are equal
 pub same-resources : (a b : ℕ) → ((r : ℕ) → has r a ≡ has r b) → a ≡ b
 same-resources a b h = inside-antisym a b (has-inside a b (λ r t. subst T (h r) t)) (has-inside b a (λ r t. subst T (sym (h r)) t))
+
+-- the empty set has no resource
+pub has-none : (r : ℕ) → has r 0 ≡ false
+unfolding difference
+has-none r = has-difference r 0 0 ∙ go (has r 0)
+  where
+    go : (x : Bool) → (x && not x) ≡ false
+    go true = refl
+    go false = refl
+
+-- sets without a common resource
+pub apart-empty : (a b : ℕ) → ((r : ℕ) → (has r a && has r b) ≡ false) → intersection a b ≡ 0
+apart-empty a b h = same-resources (intersection a b) 0 (λ r. has-intersection r a b ∙ h r ∙ sym (has-none r))
+
+pub disjoint-apart : (a b : ℕ) → T (disjoint a b) → (r : ℕ) → T (has r a) → T (has r b) → ⊥
+unfolding disjoint
+disjoint-apart a b t r p q =
+    let none : has r (intersection a b) ≡ false = ap (has r) (eqb→eq (intersection a b) 0 t) ∙ has-none r in
+    true≢false (sym (T-true _ (and-i (has r a) (has r b) p q)) ∙ sym (has-intersection r a b) ∙ none)
+
+pub apart-disjoint : (a b : ℕ) → ((r : ℕ) → T (has r a) → T (has r b) → ⊥) → T (disjoint a b)
+unfolding disjoint
+apart-disjoint a b h =
+    eq-T (intersection a b) 0 (apart-empty a b (λ r. T-false _ (λ t. h r (and-l (has r a) (has r b) t) (and-r (has r a) (has r b) t))))
 
 -- a set that is not empty has a resource
 pub some-resource : (a : ℕ) → (a ≡ 0 → ⊥) → (r : ℕ) × T (has r a)

@@ -2,8 +2,10 @@
 use Prim.Native.Nat.{ℕ, zero, suc, _+_, _≤_, _<_}
 use mathlib.Core.Path.{_≡_, refl, sym, ap, _∙_}
 use mathlib.Core.List.{List, [], _∷_, _++_}
+use mathlib.Core.Logic.{_⊎_, inl, inr}
 use native.Mathlib.Omega.{arith}
 use lib.ListN.{length, getD, drop, set, length-set, List·getD-append}
+use lib.Seq.{getD-set-same, getD-set-other}
 use Rattle.rules.specs.Slices.{writeAt, overwrite}
 
 -- a list written after another
@@ -39,3 +41,27 @@ length-overwrite xs l h = ap length (sym (writeAt-overwrite xs l h)) ∙ length-
 pub overwrite-entry : (xs l : List ℕ) (i : ℕ) → i < length xs → getD (overwrite xs l) i 0 ≡ getD xs i 0
 unfolding overwrite
 overwrite-entry xs l i h = List·getD-append xs (drop (length xs) l) 0 i h
+
+-- the entries that a list is written to, and the others
+pub writeAt-other : (at : ℕ) (xs l : List ℕ) (i : ℕ) → (i < at) ⊎ (at + length xs ≤ i) → getD (writeAt at xs l) i 0 ≡ getD l i 0
+unfolding writeAt
+writeAt-other at [] l i h = refl
+writeAt-other at (x ∷ xs) l i h = writeAt-other (suc at) xs (set l at x) i (go h) ∙ getD-set-other l at i x 0 (apart h)
+  where
+    go : (i < at) ⊎ (at + length (x ∷ xs) ≤ i) → (i < suc at) ⊎ (suc at + length xs ≤ i)
+    go (inl k) = inl (omega arith)
+    go (inr k) = inr (omega arith)
+
+    apart : (i < at) ⊎ (at + length (x ∷ xs) ≤ i) → (i ≡ at) → ⊥
+    apart (inl k) e = omega arith
+    apart (inr k) e = omega arith
+
+pub writeAt-entry : (at : ℕ) (xs l : List ℕ) (i : ℕ) → i < length xs → at + length xs ≤ length l → getD (writeAt at xs l) (at + i) 0 ≡ getD xs i 0
+unfolding writeAt
+writeAt-entry at [] l i h r = absurd (omega arith)
+writeAt-entry at (x ∷ xs) l zero h r =
+    let here : at + 0 ≡ at = omega arith in
+    rw here (writeAt-other (suc at) xs (set l at x) at (inl (omega arith)) ∙ getD-set-same l at x 0 (omega arith))
+writeAt-entry at (x ∷ xs) l (suc i) h r =
+    let next : at + suc i ≡ suc at + i = omega arith in
+    rw next (writeAt-entry (suc at) xs (set l at x) i (omega arith) (omega (arith, length-set l at x)))

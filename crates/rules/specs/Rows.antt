@@ -1,6 +1,7 @@
 -- Rows, moves and their numbers.
 use Prim.Native.Nat.{ℕ}
-use mathlib.Core.Bool.{Bool, _&&_, _||_}
+use mathlib.Core.Path.{_≡_}
+use mathlib.Core.Bool.{Bool, true, _&&_, _||_}
 use lib.Dec.{ltb, eqb}
 use Rattle.rules.specs.declared.Row.{Row}
 use Rattle.rules.specs.declared.Move.{Move}
@@ -26,3 +27,6 @@ before a b rest = ltb a b || (eqb a b && rest)
 -- 01, 'The file': "Rows rise strictly by from, then set, then target."
 unfoldable pub rises : Row → Row → Bool
 rises a b = before (a .from) (b .from) (before (a .set) (b .set) (ltb (a .target) (b .target)))
+
+abbrev pub RisesTo : Row → Row → Type 0
+RisesTo a b = rises a b ≡ true

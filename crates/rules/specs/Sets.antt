@@ -24,6 +24,10 @@ union a b = bitOr a b
 unfoldable pub difference : ℕ → ℕ → ℕ
 difference a b = a - bitAnd a b
 
+-- 01, 'Operations' (Join): two sets "share no resource"
+unfoldable pub disjoint : ℕ → ℕ → Bool
+disjoint a b = eqb (intersection a b) 0
+
 -- 01, 'Moves': "left = G without B, consumed = B and G, unmet = B without G", of a requested set B and a granted set G
 abbrev pub left : ℕ → ℕ → ℕ
 left B G = difference G B

@@ -2,7 +2,7 @@
 // Specs: sets of any width, machines, PADS, the surviving moves of a pair, the two relations, rounds and marks, runs, the steps that show a no,
 // joins, and the worked examples. Their theorems stand in proofs/. Relies on nothing.
 ghost use mathlib.Core.Path.{_≡_};
-ghost use Rattle.rules.specs.Sets.{difference, left, consumed, unmet, inside, larger};
+ghost use Rattle.rules.specs.Sets.{difference, disjoint, left, consumed, unmet, inside, larger};
 ghost use Rattle.rules.specs.Rows.{row, move, idle, noMove, rises};
 
 // The limits of document 01: resources in a set, states and rows of a table, tables and bytes of a file.
@@ -104,6 +104,13 @@ pub fn is_larger(a: u16, b: u16) -> bool
     ensures { λ r. ⌜ r ≡ larger a b ⌝ }
 {
     if a == b { false } else { is_inside(b, a) }
+}
+
+// Whether a and b share no resource.
+pub fn is_disjoint(a: u16, b: u16) -> bool
+    ensures { λ r. ⌜ r ≡ disjoint a b ⌝ }
+{
+    a & b == 0
 }
 
 // The resources of a that are not in b.

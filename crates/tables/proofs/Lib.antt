@@ -3,3 +3,4 @@ pub mod FileLaws
 pub mod AcceptedLaws
 pub mod BodyLaws
 pub mod TableLaws
+pub mod RowLaws

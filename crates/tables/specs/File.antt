@@ -1,6 +1,6 @@
 -- The fields of a file of tables. Document 01, 'The file'.
-use Prim.Native.Nat.{ℕ, zero, suc, _+_, _*_}
-use mathlib.Core.List.{List}
+use Prim.Native.Nat.{ℕ, zero, suc, _+_, _*_, _/_, _%_}
+use mathlib.Core.List.{List, [], _∷_, flatMap}
 use lib.ListN.{getD, take, drop}
 use Rattle.rules.specs.Rows.{row}
 use Rattle.rules.specs.declared.Row.{Row}
@@ -52,3 +52,11 @@ rowPlace j = 4 * j
 -- "from, target, set (two bytes)": row j of a body
 unfoldable pub rowOf : List ℕ → ℕ → Row
 rowOf body j = row (byteAt body (rowPlace j)) (byteAt body (rowPlace j + 1)) (wordAt body (rowPlace j + 2))
+
+-- the four bytes of a row, which `rowOf` reads back
+unfoldable pub rowBytes : Row → List ℕ
+rowBytes r = r .from ∷ r .target ∷ r .set % 256 ∷ r .set / 256 ∷ []
+
+-- rows in "body form"
+abbrev pub bodyBytes : List Row → List ℕ
+bodyBytes rows = flatMap rowBytes rows

@@ -1,0 +1,232 @@
+-- Laws of Join: the answer and the bytes, by what the checks find; and what is written is a body of the joined table. Relies on the laws of joining,
+-- of rows in body form, and of tables that a call names.
+use Prim.Native.Nat.{ℕ, suc, _*_, _/_, _≤_, _<_}
+use mathlib.Core.Path.{_≡_, refl, sym, ap, ap₂, _∙_, subst, subst₂}
+use mathlib.Core.Bool.{Bool, true, false, cond}
+use mathlib.Core.List.{List, [], _∷_, _++_, List·Memᴰ}
+use mathlib.Core.Logic.{_↔_}
+use native.Mathlib.Omega.{arith}
+use lib.Dec.{ltb}
+use lib.ListN.{length, getD, take, drop}
+use lib.Arith.{digits-lt}
+use lib.Seq.{take-append-seam}
+use borrow.Author.Tests.{lt-ltb, le-ltb, ltb-false}
+use Rattle.rules.specs.declared.Row.{Row}
+use Rattle.rules.specs.Slices.{overwrite}
+use Rattle.rules.specs.Machines.{Table, Machine, Sound, machine}
+use Rattle.rules.specs.Actions.{Action, tasks, _∥_}
+use Rattle.rules.specs.Join.{joinState, join, IsJoinRow}
+use Rattle.rules.proofs.MachineLaws.{fin-moves}
+use Rattle.rules.proofs.JoinLaws.{join-rises, join-rows, join-from, join-target, join-parallel}
+use Rattle.tables.specs.declared.reads.Entry.{Entry}
+use Rattle.tables.specs.declared.Refusal.{Refusal}
+use Rattle.tables.specs.declared.Checked.{Checked}
+use Rattle.tables.specs.declared.Checked.the-variants.{Passed, Fault}
+use Rattle.tables.specs.declared.Opened.{Opened}
+use Rattle.tables.specs.declared.Opened.the-variants.{Tables, Refused}
+use Rattle.tables.specs.Checks.{refuse, fault, _then_}
+use Rattle.tables.specs.Answers.{Answer, turnedBack, carriedOut, opened}
+use Rattle.tables.specs.File.{tablesOf, entryOf, bodyLength, bodyBytes}
+use Rattle.tables.specs.Open.{openOf, fileFault}
+use Rattle.tables.specs.Accepted.{TableBody, Accepted}
+use Rattle.tables.specs.Tables.{rowsOf, machineOf}
+use Rattle.tables.proofs.CheckLaws.{fault-passed, then-left, then-right}
+use Rattle.tables.proofs.AcceptedLaws.{tables-passed, refused-fault, passed-accepted}
+use Rattle.tables.proofs.RowLaws.{length-bytes, bytes-rows, bytes-body}
+use Rattle.moves.specs.States.{machineIn}
+use Rattle.joins.specs.declared.Sizes.{Sizes}
+use Rattle.joins.specs.declared.Written.{Written}
+use Rattle.joins.specs.declared.Written.the-variants.{Count, TooMany, NoRoom}
+use Rattle.joins.specs.Joins.{TwoDemands, rowsIn, written, bytesAfter}
+use Rattle.checker.specs.declared.Joined.{Joined}
+use Rattle.checker.specs.Answers.{joined, sliceAfter}
+use Rattle.checker.specs.Join.{joinFault, JoinAccepted, joinOf, joinChecks, joinAnswer, joinSlice, IsJoin}
+use Rattle.checker.proofs.PairLaws.{TableAt, table-at, table-at-sound, first-named, second-named, sorted-body, body-machine, machine-sound}
+use Rattle.checker.proofs.DemandLaws.{passed}
+
+-- ---- what the checks find
+
+module _ (s : List ℕ) (i j : ℕ) where
+  module _ (o : Opened) (e : opened o ≡ openOf s) where
+    pub join-refused : (r : Refusal) (room : ℕ) → o ≡ Refused r → joinChecks s i j room ≡ Fault r
+    unfolding joinChecks _then_
+    join-refused r room p = rw (refused-fault s r (rw p at e)) refl
+
+    module _ (k : ℕ) (c : Checked) (p : o ≡ Tables k) (f : c ≡ joinFault s k i j) where
+      pub join-fault : (r : Refusal) (room : ℕ) → c ≡ Fault r → joinChecks s i j room ≡ Fault r
+      unfolding joinChecks _then_
+      join-fault r room g = let (file, tables) = tables-passed s k (rw p at e) in rw (file, tables, sym f ∙ g) refl
+
+      pub join-asked : c ≡ Passed → JoinAccepted s i j
+      join-asked g =
+          let (file, tables) = tables-passed s k (rw p at e) in
+          record { file = file; tables = ap (λ (x : ℕ). joinFault s x i j) tables ∙ sym f ∙ g }
+
+  -- turned back: the refusal is the answer, and the bytes are unchanged
+  pub turned-back : (r : Refusal) (entry : List ℕ) → joinChecks s i j (length entry) ≡ Fault r
+      → (turnedBack r ≡ joinAnswer s i j (length entry)) × (entry ≡ joinSlice s i j entry)
+  unfolding joinAnswer joinSlice
+  turned-back r entry e = (rw e refl, rw e refl)
+
+  -- ---- the two tables
+
+  module _ (a : JoinAccepted s i j) where
+    -- each is in the file, and has a state 0
+    some-state : (x : ℕ) → x < tablesOf s → 0 < entryOf s x .states
+    some-state x l = let t : Accepted s (tablesOf s) = passed-accepted s (a .file) in let some = t .table x l .some-state in omega arith
+
+    pub first-at : TableAt s i 0
+    unfolding joinFault
+    first-at = let l = first-named s (tablesOf s) _ _ (then-left _ _ (a .tables)) in table-at s i 0 (a .file) l (some-state i l)
+
+    pub second-at : TableAt s j 0
+    unfolding joinFault
+    second-at = let l = second-named s (tablesOf s) _ _ (then-left _ _ (a .tables)) in table-at s j 0 (a .file) l (some-state j l)
+
+    pub product-few : entryOf s i .states * entryOf s j .states ≤ 64
+    unfolding joinFault
+    product-few = ltb-false 64 _ (fault-passed _ _ _ (then-right _ _ (a .tables)))
+
+    -- the entries of the two tables, as they are read
+    module _ (d : Entry) (e : d ≡ entryOf s i) (u : Entry) (f : u ≡ entryOf s j) where
+      pub product-is : d .states * u .states ≡ entryOf s i .states * entryOf s j .states
+      product-is = ap₂ (λ (x y : Entry). x .states * y .states) e f
+
+      -- the bodies, as they are found
+      module _ (b : List ℕ) (part : b ≡ take (bodyLength d) (drop (d .offset) s)) (g : List ℕ) (piece : g ≡ take (bodyLength u) (drop (u .offset) s)) where
+        abbrev sizes : Sizes
+        sizes = record { first = d .states; second = u .states }
+
+        pub two-demands : TwoDemands b g sizes
+        two-demands = record {
+          first-rows = sorted-body s i 0 first-at d e b part;
+          second-rows = sorted-body s j 0 second-at u f g piece;
+          first-sound = machine-sound s i 0 first-at d e b part;
+          second-sound = machine-sound s j 0 second-at u f g piece;
+          few = let few = product-few in omega (arith, product-is);
+        }
+
+        -- the rows of the bodies are those of the joined table
+        pub rows-found : rowsIn b g sizes ≡ joinOf s i j .rows
+        rows-found =
+            ap₂ (λ (x y : Machine). join x y .rows) (body-machine s i 0 first-at d e b part) (body-machine s j 0 second-at u f g piece)
+
+    -- ---- what writing comes to
+
+    module _ (room : ℕ) where
+      decided-by : (many short : Bool) → ltb 512 (length (joinOf s i j .rows)) ≡ many → ltb room (4 * length (joinOf s i j .rows)) ≡ short
+          → joinChecks s i j room ≡ cond many (Fault (refuse 17 0)) (cond short (Fault (refuse 14 0)) Passed)
+      unfolding joinChecks _then_ fault
+      decided-by true short p q = rw (a .file, a .tables, p) refl
+      decided-by false true p q = rw (a .file, a .tables, p, q) refl
+      decided-by false false p q = rw (a .file, a .tables, p, q) refl
+
+    -- the answer that writing gives to a joined table of n states
+    abbrev answerOf : ℕ → Written → Answer
+    answerOf n (Count m) = carriedOut (n ∷ m ∷ [])
+    answerOf n TooMany = turnedBack (refuse 17 0)
+    answerOf n NoRoom = turnedBack (refuse 14 0)
+
+    module _ (n : ℕ) (product : n ≡ entryOf s i .states * entryOf s j .states) (entry exit : List ℕ) (rows : List Row) (found : rows ≡ joinOf s i j .rows)
+        (w : Written) (told : w ≡ written rows (length entry)) (left : exit ≡ bytesAfter rows entry) where
+      abbrev Answers : Answer → List ℕ → Type 0
+      Answers x y = (x ≡ joinAnswer s i j (length entry)) × (y ≡ joinSlice s i j entry)
+
+      all-cases : Answers (answerOf n (written (joinOf s i j .rows) (length entry))) (bytesAfter (joinOf s i j .rows) entry)
+      unfolding written bytesAfter joinAnswer joinSlice
+      all-cases = go (ltb 512 (length list)) (ltb (length entry) (4 * length list)) refl refl
+        where
+          list : List Row
+          list = joinOf s i j .rows
+
+          go : (many short : Bool) → ltb 512 (length (joinOf s i j .rows)) ≡ many → ltb (length entry) (4 * length (joinOf s i j .rows)) ≡ short
+              → Answers (answerOf n (cond many TooMany (cond short NoRoom (Count (length (joinOf s i j .rows)))))) (cond many entry (cond short entry (overwrite (bodyBytes (joinOf s i j .rows)) entry)))
+          go true short p q = let e = decided-by (length entry) true short p q in (rw e refl, rw e refl)
+          go false true p q = let e = decided-by (length entry) false true p q in (rw e refl, rw e refl)
+          go false false p q =
+              let e = decided-by (length entry) false false p q in
+              (rw e (ap (λ (x : ℕ). carriedOut (x ∷ length (joinOf s i j .rows) ∷ [])) product), rw e refl)
+
+      pub write-answers : {v : Written} → w ≡ v → Answers (answerOf n v) exit
+      write-answers e =
+          subst₂ (λ (x : Written) (y : List ℕ). Answers (answerOf n x) y)
+          (sym (ap (λ (z : List Row). written z (length entry)) found) ∙ sym told ∙ e)
+          (sym (ap (λ (z : List Row). bytesAfter z entry) found) ∙ sym left) all-cases
+
+-- ---- what is written
+
+module _ (s : List ℕ) (i j : ℕ) (entry exit : List ℕ) (left : exit ≡ joinSlice s i j entry)
+    (n m : ℕ) (told : joinAnswer s i j (length entry) ≡ carriedOut (n ∷ m ∷ [])) where
+  abbrev D : Machine
+  D = machineOf s i
+
+  abbrev E : Machine
+  E = machineOf s j
+
+  abbrev rows : List Row
+  rows = joinOf s i j .rows
+
+  outcome : (joinChecks s i j (length entry) ≡ Passed) × (entryOf s i .states * entryOf s j .states ∷ length rows ∷ [] ≡ n ∷ m ∷ [])
+  unfolding joinAnswer
+  outcome = passed (joinChecks s i j (length entry)) _ _ _ told
+
+  asked : JoinAccepted s i j
+  unfolding joinChecks
+  asked = record { file = then-left _ _ (outcome .0); tables = then-left _ _ (then-right _ _ (outcome .0)) }
+
+  few-rows : length rows ≤ 512
+  unfolding joinChecks
+  few-rows = ltb-false 512 (length rows) (fault-passed _ _ _ (then-left _ _ (then-right _ _ (then-right _ _ (outcome .0)))))
+
+  n-is : n ≡ D .n * E .n
+  n-is = sym (ap (λ (l : List ℕ). getD l 0 0) (outcome .1))
+
+  m-is : m ≡ length rows
+  m-is = sym (ap (λ (l : List ℕ). getD l 1 0) (outcome .1))
+
+  bytes-are : take (4 * m) exit ≡ bodyBytes rows
+  unfolding joinSlice overwrite
+  bytes-are =
+      let long : 4 * m ≡ length (bodyBytes rows) = ap (λ (x : ℕ). 4 * x) m-is ∙ sym (length-bytes rows) in
+      ap₂ take long (left ∙ ap (λ (c : Checked). sliceAfter c (overwrite (bodyBytes rows) entry) entry) (outcome .0))
+      ∙ take-append-seam (bodyBytes rows) (drop (length (bodyBytes rows)) entry)
+
+  -- the rows that are read from them are the joined table's
+  rows-are : rowsOf (take (4 * m) exit) m ≡ rows
+  rows-are = ap₂ rowsOf bytes-are m-is ∙ bytes-rows rows
+
+  first-sound : Sound D
+  first-sound = table-at-sound s i 0 (first-at s i j asked)
+
+  second-sound : Sound E
+  second-sound = table-at-sound s j 0 (second-at s i j asked)
+
+  body-is : TableBody n m (take (4 * m) exit)
+  body-is =
+      let one = digits-lt {q = 0} {m = D .n} {r = 0} {c = E .n} (first-sound .fin) (second-sound .fin) in
+      subst (λ (x : List ℕ). TableBody n m x) (sym bytes-are)
+      (subst₂ (λ (x y : ℕ). TableBody x y (bodyBytes rows)) (sym n-is) (sym m-is)
+      (bytes-body (D .n * E .n) rows (omega arith) (product-few s i j asked) few-rows (join-from D E) (join-target D E first-sound second-sound) (join-rises D E)))
+
+  machine-is : machineIn n (take (4 * m) exit) ≡ machine (join D E)
+  unfolding join
+  machine-is =
+      let long : length (take (4 * m) exit) ≡ 4 * m = ap length bytes-are ∙ length-bytes rows ∙ ap (λ (x : ℕ). 4 * x) (sym m-is) in
+      let count : length (take (4 * m) exit) / 4 ≡ m = omega arith in
+      ap₂ (λ (x : ℕ) (z : List Row). machine (record { n = x; rows = z })) n-is (ap (rowsOf (take (4 * m) exit)) count ∙ rows-are)
+
+  pub is-join : IsJoin D E n m exit
+  is-join = record {
+    states = n-is;
+    body = body-is;
+    rows = λ r. subst (λ (z : List Row). List·Memᴰ r z ↔ IsJoinRow D E r) (sym rows-are) (join-rows D E r);
+    parallel = λ a b u v x p q l.
+        subst (λ (M : Machine). (tasks D ∥ tasks E) .Step (a, b) x (u, v) ↔ tasks M .Step (joinState (E .n) a b) x (joinState (E .n) u v)) (sym machine-is)
+        (join-parallel D E (fin-moves _) (fin-moves _) second-sound a b u v x p q l);
+  }
+
+-- of a call, all three
+pub joined-table : (s : List ℕ) (i j : ℕ) (entry exit : List ℕ) (r : Joined)
+    → (joined r ≡ joinAnswer s i j (length entry)) × (exit ≡ joinSlice s i j entry)
+    → (joined r ≡ joinAnswer s i j (length entry)) × ((exit ≡ joinSlice s i j entry) × ((n m : ℕ) → joined r ≡ carriedOut (n ∷ m ∷ []) → IsJoin (machineOf s i) (machineOf s j) n m exit))
+joined-table s i j entry exit r (a, l) = (a, (l, λ n m told. is-join s i j entry exit l n m (sym a ∙ told)))

@@ -1,0 +1,76 @@
+-- `checker::joining::check_join` meets its contract. Each answer is the first check that finds a fault.
+use Prim.Native.Nat.{_*_}
+use mathlib.Core.Path.{refl, ap₂, _∙_}
+use native.Mathlib.Omega.{arith}
+use borrow.Author.Tests.{lt-ltb, le-ltb}
+use Rattle.marks.proofs.PairLaws.{small-product}
+use Rattle.tables.specs.Checks.{fault, _then_}
+use Rattle.checker.specs.Named.{namedFault}
+use Rattle.checker.specs.Join.{joinFault}
+use borrow.Author.Needs.{needs}
+use Rattle.checker.proofs.joining.check_join.Statement.{statement}
+use Rattle.checker.proofs.joining.check_join.Tie as tie
+
+demand-requires : tie.Need-demand-requires
+demand-requires c κs = search needs
+
+demand-requires-2 : tie.Need-demand-requires-2
+demand-requires-2 c κs = search needs
+
+check-named-requires : tie.Need-check-named-requires
+check-named-requires c κs = search needs
+
+enum-known-refusal : tie.Need-enum-known-refusal
+enum-known-refusal c = search needs
+
+returns : tie.Need-returns
+unfolding joinFault _then_
+returns c = rw (← (c .before .before .before .check-named .ensures ∙ ap₂ (namedFault (c .before .before .before .before .before .before .before .args .file .now) (c .before .before .before .before .before .before .before .args .k)) (c .before .before .before .before .before .demand .ensures) (c .before .before .before .before .demand2 .ensures)), c .before .refusal .given .1) refl
+
+enum-told : tie.Need-enum-told
+enum-told c = search needs
+
+entry-at-requires : tie.Need-entry-at-requires
+entry-at-requires c κs = search needs
+
+cast-states : tie.Need-cast-states
+cast-states c = search needs
+
+entry-at-requires-2 : tie.Need-entry-at-requires-2
+entry-at-requires-2 c κs = search needs
+
+cast-states-2 : tie.Need-cast-states-2
+cast-states-2 c = search needs
+
+mul-states : tie.Need-mul-states
+mul-states c = let p = small-product (c .before .before .before .entry-at .result .states) (c .before .entry-at2 .result .states) (omega arith) (omega arith) in omega arith
+
+new-requires : tie.Need-new-requires
+new-requires c κs = search needs
+
+returns-2 : tie.Need-returns-2
+unfolding joinFault _then_ fault
+returns-2 c = simp (← (c .before .before .before .before .before .before .before .before .check-named .ensures ∙ ap₂ (namedFault (c .before .before .before .before .before .before .before .before .before .before .before .before .args .file .now) (c .before .before .before .before .before .before .before .before .before .before .before .before .args .k)) (c .before .before .before .before .before .before .before .before .before .before .demand .ensures) (c .before .before .before .before .before .before .before .before .before .demand2 .ensures)), c .before .before .before .before .before .before .enum-told .given .1, ← c .before .before .before .before .before .entry-at .ensures, ← c .before .before .before .entry-at2 .ensures, lt-ltb 64 (c .before .before .before .before .before .entry-at .result .states * c .before .before .before .entry-at2 .result .states) (let above = c .before .if1 .taken in omega arith), c .new .ensures) refl
+
+returns-3 : tie.Need-returns-3
+unfolding joinFault _then_ fault
+returns-3 c = simp (← (c .before .before .before .before .before .before .before .check-named .ensures ∙ ap₂ (namedFault (c .before .before .before .before .before .before .before .before .before .before .before .args .file .now) (c .before .before .before .before .before .before .before .before .before .before .before .args .k)) (c .before .before .before .before .before .before .before .before .before .demand .ensures) (c .before .before .before .before .before .before .before .before .demand2 .ensures)), c .before .before .before .before .before .enum-told .given .1, ← c .before .before .before .before .entry-at .ensures, ← c .before .before .entry-at2 .ensures, le-ltb 64 (c .before .before .before .before .entry-at .result .states * c .before .before .entry-at2 .result .states) (let few = c .if1 .left in omega arith)) refl
+
+pub check-join-spec : {M : Type 1} → statement M
+check-join-spec =
+    tie.close
+    (tie.spec
+    demand-requires
+    demand-requires-2
+    check-named-requires
+    enum-known-refusal
+    returns
+    enum-told
+    entry-at-requires
+    cast-states
+    entry-at-requires-2
+    cast-states-2
+    mul-states
+    new-requires
+    returns-2
+    returns-3)

@@ -1,0 +1,52 @@
+// The join of two demand tables: what turns it back after opening, and its rows where nothing does.
+ghost use mathlib.Core.Path.{_≡_};
+ghost use lib.ListN.{length};
+ghost use Rattle.checker.specs.Answers.{joined};
+ghost use Rattle.checker.specs.Join.{joinFault, JoinAccepted, joinAnswer, joinSlice};
+use crate::Joined;
+use crate::TableSize;
+use crate::named::Named;
+use crate::named::check_named;
+use joins::Sizes;
+use joins::Written;
+use rules::Limits;
+use tables::Checked;
+use tables::Refusal;
+use tables::entry_at;
+use tables::entry_body;
+
+// What turns back a join before its rows are built, in a file of k tables.
+pub(crate) fn check_join(file: &[u8], k: usize, first: usize, second: usize) -> Checked
+    ensures { λ r. ⌜ r ≡ joinFault (now (file .entry)) k first second ⌝ }
+{
+    let a = Named::demand(first);
+    let b = Named::demand(second);
+    if let Checked::Fault(refusal) = check_named(file, k, a, b) {
+        return Checked::Fault(refusal);
+    }
+    let states = entry_at(file, first).states as usize * entry_at(file, second).states as usize;
+    if Limits::STATES < states {
+        return Checked::Fault(Refusal::new(16, 0));
+    }
+    Checked::Passed
+}
+
+// Writes the rows of the join where there is room.
+pub(crate) fn write_join(file: &[u8], first: usize, second: usize, out: &mut [u8]) -> Joined
+    requires { ⌜ JoinAccepted (now file) first second ⌝ }
+    ensures answer { λ r. ⌜ joined r ≡ joinAnswer (now (file .entry)) first second (length (now (out .entry))) ⌝ }
+    ensures slice { λ r. ⌜ now (out .exit) ≡ joinSlice (now (file .entry)) first second (now (out .entry)) ⌝ }
+{
+    let a = entry_at(file, first);
+    let b = entry_at(file, second);
+    let states = a.states as usize * b.states as usize;
+    let sizes = Sizes {
+        first: a.states,
+        second: b.states,
+    };
+    match joins::write(entry_body(file, a), entry_body(file, b), sizes, out) {
+        Written::TooMany => Joined::Refused(Refusal::new(17, 0)),
+        Written::NoRoom => Joined::Refused(Refusal::new(14, 0)),
+        Written::Count(rows) => Joined::Table(TableSize { states, rows }),
+    }
+}

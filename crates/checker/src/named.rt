@@ -1,0 +1,52 @@
+// Two tables of a file that a call names, each by its number and the kind that it has to be.
+ghost use mathlib.Core.Path.{_≡_};
+ghost use Rattle.checker.specs.Named.{namedFault, asDemand, asSupply};
+use tables::Checked;
+use tables::Entry;
+use tables::Refusal;
+use tables::entry_at;
+
+// A table that a call names: its number, and the kind that it has to be.
+pub struct Named {
+    pub table: usize,
+    pub kind: u8,
+}
+
+impl Named {
+    pub fn demand(table: usize) -> Self
+        ensures { λ r. ⌜ r ≡ asDemand table ⌝ }
+    {
+        Named {
+            table,
+            kind: Entry::DEMAND,
+        }
+    }
+
+    pub fn supply(table: usize) -> Self
+        ensures { λ r. ⌜ r ≡ asSupply table ⌝ }
+    {
+        Named {
+            table,
+            kind: Entry::SUPPLY,
+        }
+    }
+}
+
+// What turns back a call that names two tables, in a file of k tables.
+pub(crate) fn check_named(file: &[u8], k: usize, first: Named, second: Named) -> Checked
+    ensures { λ r. ⌜ r ≡ namedFault (now (file .entry)) k first second ⌝ }
+{
+    if k <= first.table {
+        return Checked::Fault(Refusal::new(11, 0));
+    }
+    if k <= second.table {
+        return Checked::Fault(Refusal::new(11, 0));
+    }
+    if entry_at(file, first.table).kind != first.kind {
+        return Checked::Fault(Refusal::new(12, 0));
+    }
+    if entry_at(file, second.table).kind != second.kind {
+        return Checked::Fault(Refusal::new(12, 0));
+    }
+    Checked::Passed
+}
