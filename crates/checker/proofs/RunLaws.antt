@@ -55,7 +55,7 @@ module _ (s : List ℕ) (q : Question) (mode : ℕ) where
         let short : more < 2 * (demandOf s q .n * supplyOf s q .n) = omega (arith, pairs-are s q mode a known d e u f) in
         rw (none-fault s q mode a known d e u f room long, lt-ltb more (2 * (demandOf s q .n * supplyOf s q .n)) short) refl
 
-    no-fault : (more : ℕ) → 2 * (d .states * u .states) ≤ more → runChecks s q mode room more ≡ Passed
+    pub no-fault : (more : ℕ) → 2 * (d .states * u .states) ≤ more → runChecks s q mode room more ≡ Passed
     unfolding runChecks _then_ fault
     no-fault more l =
         let enough : 2 * (demandOf s q .n * supplyOf s q .n) ≤ more = omega (arith, pairs-are s q mode a known d e u f) in

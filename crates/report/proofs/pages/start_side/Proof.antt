@@ -1,0 +1,20 @@
+-- `report::pages::start_side` meets its contract.
+use mathlib.Core.Path.{_≡_, sym, ap, _∙_}
+use Rattle.tables.specs.declared.reads.Entry.{Entry}
+use Rattle.checker.specs.declared.Side.{Side}
+use Rattle.report.proofs.TableLaws.{start-one, start-other}
+use borrow.Author.Needs.{needs}
+use Rattle.report.proofs.pages.start_side.Statement.{statement}
+use Rattle.report.proofs.pages.start_side.Tie as tie
+
+entry-at-requires : tie.Need-entry-at-requires
+entry-at-requires c κs = search needs
+
+returns : tie.Need-returns
+returns c = ap (λ k. record { table = c .before .before .before .before .args .table; state = k }) (sym (start-one _ (ap (λ (e : Entry). e .states) (sym (c .before .before .entry-at .ensures)) ∙ c .if1 .taken)))
+
+returns-2 : tie.Need-returns-2
+returns-2 c = ap (λ k. record { table = c .before .before .before .before .args .table; state = k }) (sym (start-other _ (λ e. c .if1 .left (ap (λ (e : Entry). e .states) (c .before .before .entry-at .ensures) ∙ e))))
+
+pub start-side-spec : {M : Type 1} → statement M
+start-side-spec = tie.close (tie.spec entry-at-requires returns returns-2)

@@ -1,0 +1,43 @@
+-- A text that is composed and not yet written: the refusal, or the answers with the steps of both modes.
+use Prim.Native.Nat.{ℕ, _*_, _^_, _≤_, _<_}
+use mathlib.Core.List.{List, [], _∷_, _++_}
+use lib.Dec.{eqb}
+use lib.ListN.{length, take}
+use Rattle.rules.specs.declared.Mode.{Mode}
+use Rattle.rules.specs.declared.Mode.the-variants.{Full, Partial}
+use Rattle.rules.specs.Machines.{Machine}
+use Rattle.rules.specs.Rounds.{mark, keptCount, rounds}
+use Rattle.report.specs.declared.pages.Found.{Found}
+use Rattle.report.specs.declared.pages.Page.{Page}
+use Rattle.report.specs.declared.pages.Page.the-variants.{Refused, Answered}
+use Rattle.report.specs.Lines.{refusedLine, fileLine, startLine, verdictLine, stepLine}
+
+-- the lines of steps: supply row and task row of each
+abbrev pub stepLines : List ℕ → List ℕ
+stepLines [] = []
+stepLines (supply ∷ []) = []
+stepLines (supply ∷ task ∷ rest) = stepLine supply task ++ stepLines rest
+
+-- what a mode found, with its steps at the start of a slice
+unfoldable pub foundText : Mode → Found → List ℕ → List ℕ
+foundText mode found steps =
+    verdictLine mode (found .verdict .yes) (found .verdict .rounds) (found .verdict .kept) ++ stepLines (take (2 * found .steps) steps)
+
+abbrev pub pageText : Page → List ℕ → List ℕ → List ℕ
+pageText (Refused r) full partial = refusedLine r
+pageText (Answered a) full partial =
+    fileLine (a .bytes) (a .tables) ++ startLine (a .question) ++ foundText Full (a .full) full ++ foundText Partial (a .partial) partial
+
+-- the steps lie in their slices, and the text's length is a number of 64 bits
+abbrev pub StepsIn : Page → List ℕ → List ℕ → Type 0
+StepsIn (Refused r) full partial = Unit
+StepsIn (Answered a) full partial = (2 * a .full .steps ≤ length full) × (2 * a .partial .steps ≤ length partial)
+
+pub record Whole (page : Page) (full partial : List ℕ) : Type 0 where
+  pub steps-in : StepsIn page full partial
+  pub short : length (pageText page full partial) < 2 ^ 64
+
+-- what a mode finds from the pair (t, w)
+abbrev pub foundOf : Mode → Machine → Machine → ℕ → ℕ → Found
+foundOf mode D S t w =
+    record { verdict = record { yes = eqb (mark mode D S t w) 0; kept = keptCount mode D S; rounds = rounds mode D S }; steps = mark mode D S t w }

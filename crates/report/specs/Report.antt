@@ -1,0 +1,80 @@
+-- The text that the program prints for a file. Document 01, 'The program'.
+use Prim.Native.Nat.{ℕ, zero, suc}
+use mathlib.Core.Bool.{cond}
+use mathlib.Core.List.{List, [], _∷_, _++_, flatMap}
+use lib.Dec.{ltb, leb, eqb}
+use lib.ListN.{length}
+use Rattle.rules.specs.declared.Mode.{Mode}
+use Rattle.rules.specs.declared.Mode.the-variants.{Full, Partial}
+use Rattle.rules.specs.Slices.{overwrite}
+use Rattle.rules.specs.Machines.{Machine}
+use Rattle.rules.specs.Rounds.{mark, keptCount, rounds}
+use Rattle.rules.specs.Steps.{slots}
+use Rattle.tables.specs.declared.Checked.{Checked}
+use Rattle.tables.specs.declared.Checked.the-variants.{Passed, Fault}
+use Rattle.tables.specs.Checks.{fault, _then_}
+use Rattle.tables.specs.Answers.{Answer, answer}
+use Rattle.tables.specs.File.{tablesOf, entryOf}
+use Rattle.tables.specs.Open.{fileFault}
+use Rattle.checker.specs.declared.Side.{Side}
+use Rattle.checker.specs.declared.Question.{Question}
+use Rattle.checker.specs.Answers.{sliceAfter}
+use Rattle.checker.specs.Pairs.{demandOf, supplyOf}
+use Rattle.report.specs.Lines.{refusedLine, fileLine, startLine, verdictLine, stepLine}
+
+-- the first of the tables 0 to k - 1 that is of a kind, or k where none is
+unfoldable pub firstOf : List ℕ → ℕ → ℕ → ℕ
+firstOf s kind zero = 0
+firstOf s kind (suc i) = cond (ltb (firstOf s kind i) i) (firstOf s kind i) (cond (eqb (entryOf s i .kind) kind) i (suc i))
+
+-- "the first demand and the first supply table"
+abbrev pub firstDemand : List ℕ → ℕ
+firstDemand s = firstOf s 1 (tablesOf s)
+
+abbrev pub firstSupply : List ℕ → ℕ
+firstSupply s = firstOf s 2 (tablesOf s)
+
+-- "from state 1 of each (0 where n is 1)"
+unfoldable pub startOf : ℕ → ℕ
+startOf n = cond (eqb n 1) 0 1
+
+abbrev pub startSide : List ℕ → ℕ → Side
+startSide s table = record { table = table; state = startOf (entryOf s table .states) }
+
+abbrev pub questionOf : List ℕ → Question
+questionOf s = record { demand = startSide s (firstDemand s); supply = startSide s (firstSupply s) }
+
+-- "a missing kind is 12 at 0"
+unfoldable pub programChecks : List ℕ → Checked
+programChecks s = fileFault s then fault (leb (tablesOf s) (firstDemand s)) 12 0 then fault (leb (tablesOf s) (firstSupply s)) 12 0
+
+-- a mode's line, for the pair (t, w); "Step lines follow a no": from a pair that is kept there are no slots
+unfoldable pub modeText : Mode → Machine → Machine → ℕ → ℕ → List ℕ
+modeText mode D S t w =
+    verdictLine mode (eqb (mark mode D S t w) 0) (rounds mode D S) (keptCount mode D S)
+    ++ flatMap (λ c. stepLine (c .supply .row) (c .task .row)) (slots mode D S (mark mode D S t w) t w)
+
+-- full, then partial
+abbrev pub decisionText : Mode → List ℕ → Question → List ℕ
+decisionText mode s q = modeText mode (demandOf s q) (supplyOf s q) (q .demand .state) (q .supply .state)
+
+-- "A refusal prints only the line"
+abbrev pub textAfter : Checked → List ℕ → List ℕ
+textAfter (Fault r) s = refusedLine r
+textAfter Passed s =
+    fileLine (length s) (tablesOf s) ++ startLine (questionOf s) ++ decisionText Full s (questionOf s) ++ decisionText Partial s (questionOf s)
+
+unfoldable pub text : List ℕ → List ℕ
+text s = textAfter (programChecks s) s
+
+-- 14 where the lent bytes are fewer than the text; room is how many are lent
+unfoldable pub roomFault : List ℕ → ℕ → Checked
+roomFault s room = fault (ltb room (length (text s))) 14 0
+
+-- its length is returned
+unfoldable pub reportAnswer : List ℕ → ℕ → Answer
+reportAnswer s room = answer (roomFault s room) (length (text s) ∷ [])
+
+-- later bytes are unchanged
+unfoldable pub reportBytes : List ℕ → List ℕ → List ℕ
+reportBytes s entry = sliceAfter (roomFault s (length entry)) (overwrite (text s) entry) entry

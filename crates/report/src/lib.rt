@@ -1,0 +1,30 @@
+// The whole text that the program prints for a file of tables, written to a lent buffer. Nothing is asked of the caller. Relies on `tables` to open the
+// file, on `checker` for the decisions and the runs, and on `text` for words and numbers.
+ghost use mathlib.Core.Path.{_≡_};
+ghost use lib.ListN.{length};
+ghost use Rattle.checker.specs.Answers.{counted};
+ghost use Rattle.report.specs.Report.{reportAnswer, reportBytes};
+use checker::Counted;
+use pages::STEPS;
+use pages::compose;
+use pages::put_page;
+use tables::Refusal;
+
+mod lines;
+mod pages;
+
+// Writes the text for a file, and returns its length.
+pub fn write(file: &[u8], out: &mut [u8]) -> Counted
+    ensures answer { λ r. ⌜ counted r ≡ reportAnswer (now (file .entry)) (length (now (out .entry))) ⌝ }
+    ensures bytes { λ r. ⌜ now (out .exit) ≡ reportBytes (now (file .entry)) (now (out .entry)) ⌝ }
+{
+    let mut full = [0u16; STEPS];
+    let mut partial = [0u16; STEPS];
+    let page = compose(file, &mut full, &mut partial);
+    let mut nothing = [0u8; 1];
+    let count = put_page(&mut nothing, page, &full, &partial);
+    if out.len() < count {
+        return Counted::Refused(Refusal::new(14, 0));
+    }
+    Counted::Count(put_page(out, page, &full, &partial))
+}

@@ -1,0 +1,177 @@
+// A text that is composed and not yet written: what has to be printed, and the steps beside it. So its length is known before a byte is written.
+ghost use Prim.Native.Nat.{_+_, _*_, _^_, _≤_, _<_};
+ghost use mathlib.Core.Path.{_≡_};
+ghost use lib.ListN.{length};
+ghost use Rattle.rules.specs.Slices.{writeAt, overwrite};
+ghost use Rattle.rules.specs.Steps.{steps as stepsOf};
+ghost use Rattle.checker.specs.Pairs.{PairAccepted, demandOf, supplyOf};
+ghost use Rattle.checker.specs.Decide.{modeOf};
+ghost use Rattle.report.specs.declared.pages.Page.the-variants.{Answered};
+ghost use Rattle.report.specs.Report.{text, firstOf, startSide};
+ghost use Rattle.report.specs.Pages.{foundOf, foundText, pageText, Whole};
+use crate::lines::put_file;
+use crate::lines::put_refused;
+use crate::lines::put_start;
+use crate::lines::put_steps;
+use crate::lines::put_verdict;
+use checker::Counted;
+use checker::Decided;
+use checker::Question;
+use checker::Side;
+use checker::Verdict;
+use rules::Limits;
+use rules::Mode;
+use tables::Entry;
+use tables::Opened;
+use tables::Refusal;
+use tables::entry_at;
+use tables::open;
+use tables::refusal_of;
+
+// Room for the marks of the most pairs there can be, and for the longest run.
+const PAIRS: usize = Limits::STATES * Limits::STATES;
+
+pub(crate) const STEPS: usize = 2 * PAIRS;
+
+// What a mode finds: the verdict, and how many steps show a no.
+pub struct Found {
+    pub verdict: Verdict,
+    pub steps: usize,
+}
+
+impl Found {
+    fn nothing() -> Self {
+        let verdict = Verdict {
+            yes: false,
+            kept: 0,
+            rounds: 0,
+        };
+        Found { verdict, steps: 0 }
+    }
+}
+
+// What an accepted file's text tells.
+pub struct Answers {
+    pub bytes: usize,
+    pub tables: usize,
+    pub question: Question,
+    pub full: Found,
+    pub partial: Found,
+}
+
+pub enum Page {
+    Refused(Refusal),
+    Answered(Answers),
+}
+
+// The first table of a kind, or k where there is none.
+fn first_table(file: &[u8], k: usize, kind: u8) -> usize
+    ensures { λ r. ⌜ r ≡ firstOf (now (file .entry)) kind k ⌝ }
+{
+    for i in 0..k {
+        let entry = entry_at(file, i);
+        if entry.kind == kind {
+            return i;
+        }
+    }
+    k
+}
+
+// A table, with the state that it is started from.
+fn start_side(file: &[u8], table: usize) -> Side
+    ensures { λ r. ⌜ r ≡ startSide (now (file .entry)) table ⌝ }
+{
+    let entry = entry_at(file, table);
+    if entry.states == 1 {
+        return Side { table, state: 0 };
+    }
+    Side { table, state: 1 }
+}
+
+// What a mode finds, and in `steps` the run that shows a no. Nothing turns back a call here, so the answer for that case is never given.
+fn find(file: &[u8], question: Question, mode: usize, steps: &mut [u16]) -> Found
+    requires { ⌜ PairAccepted (now file) question × (mode ≤ 1) × (8192 ≤ length (now steps)) ⌝ }
+    ensures found { λ r. ⌜ r ≡ foundOf (modeOf mode) (demandOf (now (file .entry)) question) (supplyOf (now (file .entry)) question) (question .demand .state) (question .supply .state) ⌝ }
+    ensures steps { λ r. ⌜ now (steps .exit) ≡ overwrite (stepsOf (modeOf mode) (demandOf (now (file .entry)) question) (supplyOf (now (file .entry)) question) (question .demand .state) (question .supply .state)) (now (steps .entry)) ⌝ }
+{
+    let mut marks = [0u16; PAIRS];
+    let decided = checker::decide(file, question, mode, &mut marks);
+    let Decided::Answered(verdict) = decided else {
+        return Found::nothing();
+    };
+    let counted = checker::run(file, question, mode, &mut marks, steps);
+    let Counted::Count(count) = counted else {
+        return Found::nothing();
+    };
+    Found {
+        verdict,
+        steps: count,
+    }
+}
+
+// Composes the text for a file. The steps of each mode go to the slice lent for it.
+pub(crate) fn compose(file: &[u8], full: &mut [u16], partial: &mut [u16]) -> Page
+    requires { ⌜ (8192 ≤ length (now full)) × (8192 ≤ length (now partial)) ⌝ }
+    ensures text { λ r. ⌜ pageText r (now (full .exit)) (now (partial .exit)) ≡ text (now (file .entry)) ⌝ }
+    ensures whole { λ r. ⌜ Whole r (now (full .exit)) (now (partial .exit)) ⌝ }
+{
+    let found = open(file);
+    let Opened::Tables(k) = found else {
+        return Page::Refused(refusal_of(found));
+    };
+    let demand = first_table(file, k, Entry::DEMAND);
+    let supply = first_table(file, k, Entry::SUPPLY);
+    if k <= demand {
+        return Page::Refused(Refusal::new(12, 0));
+    }
+    if k <= supply {
+        return Page::Refused(Refusal::new(12, 0));
+    }
+    let question = Question {
+        demand: start_side(file, demand),
+        supply: start_side(file, supply),
+    };
+    let every = find(file, question, 0, full);
+    let some = find(file, question, 1, partial);
+    Page::Answered(Answers {
+        bytes: file.len(),
+        tables: k,
+        question,
+        full: every,
+        partial: some,
+    })
+}
+
+// Writes what a mode found, with its steps.
+fn put_found(out: &mut [u8], at: usize, mode: Mode, found: Found, steps: &[u16]) -> usize
+    requires { ⌜ (2 * found .steps ≤ length (now steps)) × (at + length (foundText mode found (now steps)) < 2 ^ 64) ⌝ }
+    ensures place { λ r. ⌜ r ≡ at + length (foundText mode found (now (steps .entry))) ⌝ }
+    ensures bytes { λ r. ⌜ now (out .exit) ≡ writeAt at (foundText mode found (now (steps .entry))) (now (out .entry)) ⌝ }
+{
+    let line = put_verdict(out, at, mode, found.verdict);
+    let end = 2 * found.steps;
+    put_steps(out, line, &steps[..end])
+}
+
+fn put_answers(out: &mut [u8], answers: Answers, full: &[u16], partial: &[u16]) -> usize
+    requires { ⌜ Whole (Answered answers) (now full) (now partial) ⌝ }
+    ensures place { λ r. ⌜ r ≡ length (pageText (Answered answers) (now (full .entry)) (now (partial .entry))) ⌝ }
+    ensures bytes { λ r. ⌜ now (out .exit) ≡ writeAt 0 (pageText (Answered answers) (now (full .entry)) (now (partial .entry))) (now (out .entry)) ⌝ }
+{
+    let file = put_file(out, 0, answers.bytes, answers.tables);
+    let start = put_start(out, file, answers.question);
+    let every = put_found(out, start, Mode::Full, answers.full, full);
+    put_found(out, every, Mode::Partial, answers.partial, partial)
+}
+
+// Writes a text that is composed, as far as the buffer reaches, and returns its length.
+pub(crate) fn put_page(out: &mut [u8], page: Page, full: &[u16], partial: &[u16]) -> usize
+    requires { ⌜ Whole page (now full) (now partial) ⌝ }
+    ensures place { λ r. ⌜ r ≡ length (pageText page (now (full .entry)) (now (partial .entry))) ⌝ }
+    ensures bytes { λ r. ⌜ now (out .exit) ≡ writeAt 0 (pageText page (now (full .entry)) (now (partial .entry))) (now (out .entry)) ⌝ }
+{
+    match page {
+        Page::Refused(refusal) => put_refused(out, 0, refusal),
+        Page::Answered(answers) => put_answers(out, answers, full, partial),
+    }
+}

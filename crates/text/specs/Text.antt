@@ -1,0 +1,25 @@
+-- Text as bytes.
+use Prim.Native.Nat.{ℕ, zero, suc, _+_, _/_, _%_}
+use Prim.Native.Char.{code}
+use Prim.Native.String.{String, [] as none, _∷_ as _before_}
+use mathlib.Core.Bool.{cond}
+use mathlib.Core.List.{List, [], _∷_, _++_}
+use lib.Dec.{ltb}
+
+-- the bytes of a text in ASCII
+abbrev pub ascii : String → List ℕ
+ascii none = []
+ascii (c before cs) = code c ∷ ascii cs
+
+-- the byte of a digit, 0 to 9
+abbrev pub digit : ℕ → ℕ
+digit d = 48 + d
+
+-- the digits of a number in decimal, the last k at most
+unfoldable pub digitsIn : ℕ → ℕ → List ℕ
+digitsIn zero n = []
+digitsIn (suc k) n = cond (ltb n 10) (digit n ∷ []) (digitsIn k (n / 10) ++ (digit (n % 10) ∷ []))
+
+-- a number of 64 bits in decimal, without leading zeros; 20 digits hold every such number
+unfoldable pub decimal : ℕ → List ℕ
+decimal n = digitsIn 20 n

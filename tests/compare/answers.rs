@@ -1,0 +1,225 @@
+//! What each call answers, as the text that `calls_test` prints: the number and
+//! place, the values returned, and the final contents of what was lent.
+
+use crate::file::{open, refuse, Kind, Refusal, Row, Table, MOST_ROWS, MOST_STATES};
+use crate::question::{Operation, Question, QUESTION_LENGTH};
+use crate::rules::{combined_moves, count_kept, join, marks, rounds, run, Mode, Pair, Tables};
+
+/// The expected output of a program, with what is counted of it.
+pub struct Answer {
+    pub text: String,
+    /// 0 for carried out, else the number; nothing where nothing is printed.
+    pub number: Option<u16>,
+    pub decisions: Vec<Decision>,
+}
+
+/// A decision, with the length of the run from its start where one was asked.
+#[derive(Clone, Copy)]
+pub struct Decision {
+    pub mode: Mode,
+    pub yes: bool,
+    pub steps: usize,
+}
+
+/// What was lent, for the call to write into.
+struct Lent {
+    first: Vec<u16>,
+    second: Vec<u16>,
+}
+
+/// What a call that is carried out returns.
+struct Returned {
+    values: Vec<usize>,
+    part: Vec<u8>,
+    decisions: Vec<Decision>,
+}
+
+fn returned(values: Vec<usize>) -> Returned {
+    Returned { values, part: Vec::new(), decisions: Vec::new() }
+}
+
+/// What `calls_test` answers to an input.
+pub fn answer(input: &[u8]) -> Answer {
+    let Some(question) = Question::read(input) else {
+        return Answer { text: String::new(), number: None, decisions: Vec::new() };
+    };
+    let mut lent = lend(&question);
+    let result = call(&question, &input[QUESTION_LENGTH..], &mut lent);
+    let (number, first_line, part, decisions) = match result {
+        Ok(done) => (0, [vec![0, 0], done.values].concat(), done.part, done.decisions),
+        Err(refusal) => {
+            let first_line = vec![refusal.number as usize, refusal.place];
+            (refusal.number, first_line, Vec::new(), Vec::new())
+        }
+    };
+    let mut text = line(&first_line);
+    match question.operation {
+        Operation::Open => {}
+        Operation::Body => text += &line(&part),
+        Operation::Moves | Operation::Decide | Operation::Join => text += &line(&lent.first),
+        Operation::Run => text += &(line(&lent.first) + &line(&lent.second)),
+    }
+    Answer { text, number: Some(number), decisions }
+}
+
+/// Numbers separated by one space, with a line feed.
+fn line<N: ToString>(numbers: &[N]) -> String {
+    let words: Vec<String> = numbers.iter().map(|number| number.to_string()).collect();
+    words.join(" ") + "\n"
+}
+
+/// The lent slices as they stand before the call. The bytes lent to Join are
+/// held as numbers here.
+fn lend(question: &Question) -> Lent {
+    let numbers = |length: usize| (0..length).map(|i| (50_000 + i % 499) as u16).collect();
+    let bytes = |length: usize| (0..length).map(|i| (i % 251) as u16).collect();
+    Lent {
+        first: match question.operation {
+            Operation::Join => bytes(question.first_length),
+            _ => numbers(question.first_length),
+        },
+        second: numbers(question.second_length),
+    }
+}
+
+fn call(question: &Question, file: &[u8], lent: &mut Lent) -> Result<Returned, Refusal> {
+    let tables = open(file)?;
+    match question.operation {
+        Operation::Open => Ok(returned(vec![tables.len()])),
+        Operation::Body => call_body(question, file, &tables),
+        Operation::Moves => call_moves(question, &tables, lent),
+        Operation::Decide => call_decide(question, &tables, lent),
+        Operation::Run => call_run(question, &tables, lent),
+        Operation::Join => call_join(question, &tables, lent),
+    }
+}
+
+fn call_body(question: &Question, file: &[u8], tables: &[Table]) -> Result<Returned, Refusal> {
+    match tables.get(question.first_table) {
+        None => refuse(11, 0),
+        Some(table) => {
+            let part = file[table.body.clone()].to_vec();
+            Ok(Returned { values: Vec::new(), part, decisions: Vec::new() })
+        }
+    }
+}
+
+/// The two tables asked for: 11 for the first, then the second; then 12.
+fn two_tables<'a>(
+    question: &Question,
+    tables: &'a [Table],
+    kinds: [Kind; 2],
+) -> Result<[&'a Table; 2], Refusal> {
+    if question.first_table >= tables.len() || question.second_table >= tables.len() {
+        return refuse(11, 0);
+    }
+    let found = [&tables[question.first_table], &tables[question.second_table]];
+    if found[0].kind != kinds[0] || found[1].kind != kinds[1] {
+        return refuse(12, 0);
+    }
+    Ok(found)
+}
+
+/// The demand and supply tables and the pair of states: 11, 12, then 13.
+fn tables_and_pair<'a>(
+    question: &Question,
+    tables: &'a [Table],
+) -> Result<(Tables<'a>, Pair), Refusal> {
+    let [demand, supply] = two_tables(question, tables, [Kind::Demand, Kind::Supply])?;
+    if question.demand_state >= demand.states || question.supply_state >= supply.states {
+        return refuse(13, 0);
+    }
+    let pair = Pair { demand: question.demand_state, supply: question.supply_state };
+    Ok((Tables { demand, supply }, pair))
+}
+
+fn mode_of(question: &Question) -> Result<Mode, Refusal> {
+    match question.mode {
+        0 => Ok(Mode::Full),
+        1 => Ok(Mode::Partial),
+        _ => refuse(15, 0),
+    }
+}
+
+fn call_moves(
+    question: &Question,
+    tables: &[Table],
+    lent: &mut Lent,
+) -> Result<Returned, Refusal> {
+    let (tables, pair) = tables_and_pair(question, tables)?;
+    let moves = combined_moves(tables, pair);
+    if lent.first.len() < 5 * moves.len() {
+        return refuse(14, 0);
+    }
+    for (index, combined) in moves.iter().enumerate() {
+        lent.first[5 * index] = combined.left;
+        lent.first[5 * index + 1] = combined.consumed;
+        lent.first[5 * index + 2] = combined.unmet;
+        lent.first[5 * index + 3] = combined.demand_target as u16;
+        lent.first[5 * index + 4] = combined.supply_target as u16;
+    }
+    Ok(returned(vec![moves.len()]))
+}
+
+fn call_decide(
+    question: &Question,
+    tables: &[Table],
+    lent: &mut Lent,
+) -> Result<Returned, Refusal> {
+    let (tables, pair) = tables_and_pair(question, tables)?;
+    let mode = mode_of(question)?;
+    if lent.first.len() < tables.count_of_pairs() {
+        return refuse(14, 0);
+    }
+    let marks = marks(tables, mode);
+    lent.first[..marks.len()].copy_from_slice(&marks);
+    let yes = marks[tables.entry(pair)] == 0;
+    let values = vec![yes as usize, count_kept(&marks), rounds(&marks) as usize];
+    let decisions = vec![Decision { mode, yes, steps: 0 }];
+    Ok(Returned { values, part: Vec::new(), decisions })
+}
+
+fn call_run(question: &Question, tables: &[Table], lent: &mut Lent) -> Result<Returned, Refusal> {
+    let (tables, pair) = tables_and_pair(question, tables)?;
+    let mode = mode_of(question)?;
+    let count = tables.count_of_pairs();
+    if lent.first.len() < count || lent.second.len() < 2 * count {
+        return refuse(14, 0);
+    }
+    let marks = marks(tables, mode);
+    lent.first[..count].copy_from_slice(&marks);
+    let steps = run(tables, mode, &marks, pair);
+    for (index, step) in steps.iter().enumerate() {
+        lent.second[2 * index] = step.supply_row;
+        lent.second[2 * index + 1] = step.task_row;
+    }
+    let yes = marks[tables.entry(pair)] == 0;
+    let decisions = vec![Decision { mode, yes, steps: steps.len() }];
+    Ok(Returned { values: vec![steps.len()], part: Vec::new(), decisions })
+}
+
+fn call_join(question: &Question, tables: &[Table], lent: &mut Lent) -> Result<Returned, Refusal> {
+    let [first, second] = two_tables(question, tables, [Kind::Demand, Kind::Demand])?;
+    let states = first.states * second.states;
+    if states > MOST_STATES {
+        return refuse(16, 0);
+    }
+    let rows = join(first, second);
+    if rows.len() > MOST_ROWS {
+        return refuse(17, 0);
+    }
+    if lent.first.len() < 4 * rows.len() {
+        return refuse(14, 0);
+    }
+    let bytes: Vec<u8> = rows.iter().flat_map(body_form).collect();
+    for (place, byte) in bytes.iter().enumerate() {
+        lent.first[place] = *byte as u16;
+    }
+    Ok(returned(vec![states, rows.len()]))
+}
+
+/// The four bytes of a row: from, target, set.
+pub fn body_form(row: &Row) -> [u8; 4] {
+    let set = row.set.to_le_bytes();
+    [row.from, row.target, set[0], set[1]]
+}

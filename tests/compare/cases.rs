@@ -1,0 +1,297 @@
+//! All cases, made from fixed seeds: first the examples by hand, then the kinds
+//! of case in a fixed rotation.
+
+use crate::calls::{
+    faulty_question, join_at_limit, likely_question, operation_and_fault, wide_moves, WIDE,
+};
+use crate::drafts::{
+    branching, cycles_or_chain, file_of, largest_tables, odd_tables, random_tables,
+    tables_in_any_order,
+};
+use crate::examples::{Example, E};
+use crate::faults::{
+    damaged_file, faulty_file, limit_file, noise, sound_file, two_faults, FAULTS, LIMITS,
+    TWO_FAULTS,
+};
+use crate::question::{Operation, OPERATIONS};
+use crate::random::Random;
+
+#[derive(Clone, Copy, PartialEq, Eq)]
+pub enum Program {
+    Slots,
+    Calls,
+}
+
+pub struct Case {
+    pub kind: &'static str,
+    pub program: Program,
+    pub input: Vec<u8>,
+    /// In how many pieces the input is written.
+    pub pieces: usize,
+    /// The output that the paper prints or that was worked out by hand.
+    pub by_hand: Option<String>,
+}
+
+/// A kind of case: its name, how often it stands in the rotation, and how to
+/// make one. The turn counts the cases of this kind.
+struct Kind {
+    name: &'static str,
+    often: usize,
+    make: fn(&mut Random, usize) -> Made,
+}
+
+struct Made {
+    program: Program,
+    input: Vec<u8>,
+    pieces: usize,
+}
+
+fn for_slots(input: Vec<u8>) -> Made {
+    Made { program: Program::Slots, input, pieces: 1 }
+}
+
+fn for_calls(input: Vec<u8>) -> Made {
+    Made { program: Program::Calls, input, pieces: 1 }
+}
+
+const fn kind(name: &'static str, often: usize, make: fn(&mut Random, usize) -> Made) -> Kind {
+    Kind { name, often, make }
+}
+
+const ROTATION: [Kind; 25] = [
+    kind("slots, random tables", 3, slots_random),
+    kind("slots, cycles and chains", 1, slots_cycles),
+    kind("slots, branching tables", 2, slots_branching),
+    kind("slots, odd tables", 1, slots_odd),
+    kind("slots, kinds in any order", 1, slots_any_order),
+    kind("slots, file with faults", 2, slots_faulty),
+    kind("slots, two faults in order", 1, slots_two_faults),
+    kind("slots, damaged file", 1, slots_damaged),
+    kind("slots, random bytes", 1, slots_noise),
+    kind("slots, file at a limit", 1, slots_limit),
+    kind("slots, long input or pieces", 1, slots_long),
+    kind("calls, random tables", 3, calls_random),
+    kind("calls, Run on cycles and chains", 1, calls_cycles),
+    kind("calls, branching tables", 3, calls_branching),
+    kind("calls, odd tables", 1, calls_odd),
+    kind("calls, kinds in any order", 1, calls_any_order),
+    kind("calls, file with faults", 4, calls_faulty_file),
+    kind("calls, two faults in order", 1, calls_two_faults),
+    kind("calls, question with faults", 3, calls_faulty_question),
+    kind("calls, damaged file or random bytes", 1, calls_damaged),
+    kind("calls, file at a limit", 1, calls_limit),
+    kind("calls, Join of random tables", 1, calls_join),
+    kind("calls, Join at a limit", 1, calls_join_limit),
+    kind("calls, very many moves", 1, calls_wide),
+    kind("calls, no whole question", 1, calls_nothing),
+];
+
+/// The case with this number. The same number always gives the same case.
+pub fn case(number: usize, examples: &[Example]) -> Case {
+    if let Some(example) = examples.get(number) {
+        return Case {
+            kind: example.name,
+            program: example.program,
+            input: example.input.clone(),
+            pieces: 1,
+            by_hand: Some(example.output.clone()),
+        };
+    }
+    let later = number - examples.len();
+    let length: usize = ROTATION.iter().map(|kind| kind.often).sum();
+    let mut place = later % length;
+    let mut which = 0;
+    while place >= ROTATION[which].often {
+        place -= ROTATION[which].often;
+        which += 1;
+    }
+    let kind = &ROTATION[which];
+    let turn = later / length * kind.often + place;
+    let mut random = Random::new(number as u64);
+    let made = (kind.make)(&mut random, turn);
+    Case {
+        kind: kind.name,
+        program: made.program,
+        input: made.input,
+        pieces: made.pieces,
+        by_hand: None,
+    }
+}
+
+fn slots_random(random: &mut Random, _: usize) -> Made {
+    for_slots(file_of(&random_tables(random)))
+}
+
+fn slots_cycles(random: &mut Random, turn: usize) -> Made {
+    for_slots(file_of(&cycles_or_chain(random, turn)))
+}
+
+fn slots_branching(random: &mut Random, _: usize) -> Made {
+    for_slots(file_of(&branching(random)))
+}
+
+fn slots_odd(random: &mut Random, _: usize) -> Made {
+    for_slots(file_of(&odd_tables(random)))
+}
+
+fn slots_any_order(random: &mut Random, _: usize) -> Made {
+    for_slots(file_of(&tables_in_any_order(random)))
+}
+
+fn slots_faulty(random: &mut Random, turn: usize) -> Made {
+    for_slots(faulty_file(random, turn % FAULTS, turn < FAULTS))
+}
+
+fn slots_two_faults(random: &mut Random, turn: usize) -> Made {
+    for_slots(two_faults(random, turn % TWO_FAULTS))
+}
+
+fn slots_damaged(random: &mut Random, _: usize) -> Made {
+    for_slots(damaged_file(random))
+}
+
+fn slots_noise(random: &mut Random, _: usize) -> Made {
+    for_slots(noise(random))
+}
+
+fn slots_limit(random: &mut Random, turn: usize) -> Made {
+    for_slots(limit_file(random, turn % LIMITS))
+}
+
+/// Inputs around and beyond the longest read, and inputs that come in pieces.
+fn slots_long(random: &mut Random, turn: usize) -> Made {
+    let lengths = [32_866, 32_867, 32_868, 40_000, 100_000];
+    let (mut input, pieces) = match turn % 12 {
+        0..=4 => (file_of(&largest_tables(random)), random.pick(&[1, 3, 9])),
+        5 => (Vec::new(), 1),
+        6 => (E.to_vec(), E.len()),
+        7 => (sound_file(random), 5),
+        8 => (damaged_file(random), 3),
+        _ => (sound_file(random), 2),
+    };
+    let length = match turn % 12 {
+        place @ 0..=4 => lengths[place],
+        9 => random.pick(&lengths),
+        _ => input.len(),
+    };
+    let missing = length.saturating_sub(input.len());
+    input.extend(random.bytes(missing));
+    Made { program: Program::Slots, input, pieces }
+}
+
+fn calls_random(random: &mut Random, turn: usize) -> Made {
+    let asked = [Operation::Decide, Operation::Run, Operation::Moves, Operation::Run];
+    let operation = match turn % 9 {
+        8 => random.pick(&OPERATIONS),
+        place => asked[place % 4],
+    };
+    let file = file_of(&random_tables(random));
+    for_calls(likely_question(random, &file, operation).before(&file))
+}
+
+fn calls_cycles(random: &mut Random, turn: usize) -> Made {
+    let file = file_of(&cycles_or_chain(random, turn));
+    let mut question = likely_question(random, &file, Operation::Run);
+    if turn == 0 {
+        (question.demand_state, question.supply_state) = (1, 1);
+        (question.first_length, question.second_length) = (64 * 63, 2 * 64 * 63);
+    }
+    for_calls(question.before(&file))
+}
+
+fn calls_branching(random: &mut Random, turn: usize) -> Made {
+    let asked = [Operation::Run, Operation::Moves, Operation::Run, Operation::Decide];
+    let file = file_of(&branching(random));
+    for_calls(likely_question(random, &file, asked[turn % 4]).before(&file))
+}
+
+fn calls_odd(random: &mut Random, turn: usize) -> Made {
+    let asked = [Operation::Run, Operation::Moves, Operation::Decide];
+    let file = file_of(&odd_tables(random));
+    for_calls(likely_question(random, &file, asked[turn % 3]).before(&file))
+}
+
+fn calls_any_order(random: &mut Random, turn: usize) -> Made {
+    let file = file_of(&tables_in_any_order(random));
+    for_calls(likely_question(random, &file, OPERATIONS[turn % 6]).before(&file))
+}
+
+fn calls_faulty_file(random: &mut Random, turn: usize) -> Made {
+    let operation = OPERATIONS[turn % 6];
+    let file = faulty_file(random, turn / 6 % FAULTS, turn < 6 * FAULTS);
+    for_calls(likely_question(random, &file, operation).before(&file))
+}
+
+fn calls_two_faults(random: &mut Random, turn: usize) -> Made {
+    let file = two_faults(random, turn % TWO_FAULTS);
+    let operation = OPERATIONS[turn / 2 % 6];
+    for_calls(likely_question(random, &file, operation).before(&file))
+}
+
+fn calls_faulty_question(random: &mut Random, turn: usize) -> Made {
+    let (operation, fault) = operation_and_fault(turn);
+    let tables = match random.below(8) {
+        0 => tables_in_any_order(random),
+        _ => random_tables(random),
+    };
+    let file = file_of(&tables);
+    let alone = turn < 34;
+    for_calls(faulty_question(random, &file, operation, fault, alone).before(&file))
+}
+
+fn calls_damaged(random: &mut Random, turn: usize) -> Made {
+    let file = match random.below(3) {
+        0 => noise(random),
+        _ => damaged_file(random),
+    };
+    for_calls(likely_question(random, &file, OPERATIONS[turn % 6]).before(&file))
+}
+
+fn calls_limit(random: &mut Random, turn: usize) -> Made {
+    let file = limit_file(random, turn % LIMITS);
+    let operation = random.pick(&OPERATIONS);
+    for_calls(likely_question(random, &file, operation).before(&file))
+}
+
+/// Joins of tables with few states, sometimes of a table with itself.
+fn calls_join(random: &mut Random, turn: usize) -> Made {
+    let mut tables = odd_tables(random);
+    tables.extend(random_tables(random));
+    tables.extend(odd_tables(random));
+    let file = file_of(&tables);
+    let mut question = likely_question(random, &file, Operation::Join);
+    if turn % 4 == 0 {
+        question.second_table = question.first_table;
+    }
+    for_calls(question.before(&file))
+}
+
+fn calls_join_limit(random: &mut Random, turn: usize) -> Made {
+    let (file, question) = join_at_limit(random, turn);
+    for_calls(question.before(&file))
+}
+
+/// Long answers, so only every third case is one of the largest.
+fn calls_wide(random: &mut Random, turn: usize) -> Made {
+    if turn % 3 == 0 {
+        let (file, question) = wide_moves(random, turn / 3 % WIDE);
+        return for_calls(question.before(&file));
+    }
+    let file = sound_file(random);
+    for_calls(likely_question(random, &file, Operation::Moves).before(&file))
+}
+
+/// Questions cut short, and operations above 5; also whole ones in pieces.
+fn calls_nothing(random: &mut Random, turn: usize) -> Made {
+    let file = sound_file(random);
+    let operation = random.pick(&OPERATIONS);
+    let mut input = likely_question(random, &file, operation).before(&file);
+    let mut pieces = 1;
+    match turn % 4 {
+        0 => input.truncate(random.below(14)),
+        1 => input[0] = random.pick(&[6, 7, 255]),
+        2 => input.truncate(random.between(14, 15)),
+        _ => pieces = random.between(2, 9),
+    }
+    Made { program: Program::Calls, input, pieces }
+}
