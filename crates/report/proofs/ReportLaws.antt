@@ -5,9 +5,9 @@ use mathlib.Core.Bool.{Bool, true, false, not, cond}
 use mathlib.Core.List.{List, [], _∷_, _++_, flatMap}
 use native.Mathlib.Omega.{arith}
 use lib.Dec.{leb, ltb, eqb}
-use lib.ListN.{length, take, drop, length-append}
+use lib.ListN.{length, getD, take, drop, length-append}
 use lib.Seq.{take-at}
-use borrow.Author.Tests.{leb-false, lt-ltb, le-ltb, le-leb, lt-leb, eq-eqb}
+use borrow.Author.Tests.{ltb-false, leb-false, lt-ltb, le-ltb, le-leb, lt-leb, eq-eqb}
 use Rattle.rules.specs.declared.Mode.{Mode}
 use Rattle.rules.specs.declared.Mode.the-variants.{Full, Partial}
 use Rattle.rules.specs.Slices.{writeAt, overwrite}
@@ -24,7 +24,7 @@ use Rattle.tables.specs.declared.Checked.the-variants.{Passed, Fault}
 use Rattle.tables.specs.declared.Opened.{Opened}
 use Rattle.tables.specs.declared.Opened.the-variants.{Tables, Refused}
 use Rattle.tables.specs.Checks.{refuse, fault, _then_}
-use Rattle.tables.specs.Answers.{turnedBack, carriedOut, opened}
+use Rattle.tables.specs.Answers.{Answer, answer, turnedBack, carriedOut, opened}
 use Rattle.tables.specs.File.{tablesOf, entryOf}
 use Rattle.tables.specs.Open.{fileFault, openOf}
 use Rattle.tables.proofs.CheckLaws.{fault-passed, passed-fault, then-left, then-right, then-both}
@@ -262,3 +262,17 @@ module _ (s entry : List ℕ) where
   unfolding reportAnswer reportBytes roomFault fault
   text-written count exit h e w =
       (rw (le-ltb _ _ h) (ap (λ (n : ℕ). carriedOut (n ∷ [])) e), rw (le-ltb _ _ h) (w ∙ writeAt-overwrite (text s) entry h))
+
+-- the count that is returned is within the lent bytes
+pub count-within : (s : List ℕ) (room count : ℕ) → carriedOut (count ∷ []) ≡ reportAnswer s room → count ≤ room
+unfolding reportAnswer roomFault fault
+count-within s room count e = go (ltb room (length (text s))) refl e
+  where
+    go : (b : Bool) → ltb room (length (text s)) ≡ b → carriedOut (count ∷ []) ≡ answer (fault b 14 0) (length (text s) ∷ []) → count ≤ room
+    go true f a = let none : length (count ∷ []) ≡ 0 = ap (λ (x : Answer). length (x .values)) a in absurd (omega arith)
+    go false f a = let same : count ≡ length (text s) = ap (λ (x : Answer). getD (x .values) 0 0) a in let most : length (text s) ≤ room = ltb-false room (length (text s)) f in omega arith
+
+-- with room for the longest text no call is turned back
+pub always-written : (s : List ℕ) (room : ℕ) → 385321 ≤ room → reportAnswer s room ≡ carriedOut (length (text s) ∷ [])
+unfolding reportAnswer roomFault fault
+always-written s room h = let fits = text-fits s in let enough : length (text s) ≤ room = omega arith in rw (le-ltb room (length (text s)) enough) refl

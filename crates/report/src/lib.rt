@@ -13,6 +13,9 @@ use tables::Refusal;
 mod lines;
 mod pages;
 
+// No text is longer (`text-fits`).
+pub const LONGEST: usize = 385321;
+
 // Writes the text for a file, and returns its length.
 pub fn write(file: &[u8], out: &mut [u8]) -> Counted
     ensures answer { λ r. ⌜ counted r ≡ reportAnswer (now (file .entry)) (length (now (out .entry))) ⌝ }

@@ -1,30 +1,20 @@
-// The program: opens the file on standard input, and prints how many tables it has, or the number and place that turn it back.
-// Relies on `tables` and `rules`. What it prints is held to the file `stdout` beside this folder, for the file `stdin`.
+// The program: reads standard input as a file of tables, and writes the text that `report` makes of it. Relies on `report` for the text, and on
+// `io`. What it prints is held to the file `stdout` beside this folder, for the file `stdin`.
+use checker::Counted;
 use rules::Limits;
-use tables::Opened;
 
-fn print(file: &[u8]) {
-    match tables::open(file) {
-        Opened::Tables(k) => {
-            io::write_all(1, b"slots ");
-            io::print_decimal(1, file.len() as u64);
-            io::write_all(1, b" bytes ");
-            io::print_decimal(1, k as u64);
-            io::write_all(1, b" tables\n");
-        }
-        Opened::Refused(refusal) => {
-            io::write_all(1, b"refused ");
-            io::print_decimal(1, refusal.number as u64);
-            io::write_all(1, b" at ");
-            io::print_decimal(1, refusal.place as u64);
-            io::write_all(1, b"\n");
-        }
+// The text is made in a lent buffer. It has room for the longest text, so no call is turned back.
+fn print(file: &[u8], text: &mut [u8]) {
+    let written = report::write(file, text);
+    if let Counted::Count(count) = written {
+        io::write_all(1, &text[..count]);
     }
 }
 
-// One byte more than the largest file, so that a longer one is turned back too.
+// One byte more than the largest file is read, so that a longer one is turned back too.
 fn main() {
     let mut input = [0u8; Limits::BYTES + 1];
     let n = io::read_full(0, &mut input);
-    print(&input[..n]);
+    let mut text = [0u8; report::LONGEST];
+    print(&input[..n], &mut text);
 }
