@@ -3,6 +3,7 @@
 
 use crate::file::{open, refuse, Kind, Refusal, Row, Table, MOST_ROWS, MOST_STATES};
 use crate::question::{Operation, Question, QUESTION_LENGTH};
+use crate::report::report;
 use crate::rules::{combined_moves, count_kept, join, marks, rounds, run, Mode, Pair, Tables};
 
 /// The expected output of a program, with what is counted of it.
@@ -56,8 +57,10 @@ pub fn answer(input: &[u8]) -> Answer {
     match question.operation {
         Operation::Open => {}
         Operation::Body => text += &line(&part),
-        Operation::Moves | Operation::Decide | Operation::Join => text += &line(&lent.first),
         Operation::Run => text += &(line(&lent.first) + &line(&lent.second)),
+        Operation::Moves | Operation::Decide | Operation::Join | Operation::Report => {
+            text += &line(&lent.first);
+        }
     }
     Answer { text, number: Some(number), decisions }
 }
@@ -68,14 +71,14 @@ fn line<N: ToString>(numbers: &[N]) -> String {
     words.join(" ") + "\n"
 }
 
-/// The lent slices as they stand before the call. The bytes lent to Join are
-/// held as numbers here.
+/// The lent slices as they stand before the call. The bytes lent to Join and
+/// Report are held as numbers here.
 fn lend(question: &Question) -> Lent {
     let numbers = |length: usize| (0..length).map(|i| (50_000 + i % 499) as u16).collect();
     let bytes = |length: usize| (0..length).map(|i| (i % 251) as u16).collect();
     Lent {
         first: match question.operation {
-            Operation::Join => bytes(question.first_length),
+            Operation::Join | Operation::Report => bytes(question.first_length),
             _ => numbers(question.first_length),
         },
         second: numbers(question.second_length),
@@ -83,14 +86,15 @@ fn lend(question: &Question) -> Lent {
 }
 
 fn call(question: &Question, file: &[u8], lent: &mut Lent) -> Result<Returned, Refusal> {
-    let tables = open(file)?;
+    let opened = open(file);
     match question.operation {
-        Operation::Open => Ok(returned(vec![tables.len()])),
-        Operation::Body => call_body(question, file, &tables),
-        Operation::Moves => call_moves(question, &tables, lent),
-        Operation::Decide => call_decide(question, &tables, lent),
-        Operation::Run => call_run(question, &tables, lent),
-        Operation::Join => call_join(question, &tables, lent),
+        Operation::Open => Ok(returned(vec![opened?.len()])),
+        Operation::Body => call_body(question, file, &opened?),
+        Operation::Moves => call_moves(question, &opened?, lent),
+        Operation::Decide => call_decide(question, &opened?, lent),
+        Operation::Run => call_run(question, &opened?, lent),
+        Operation::Join => call_join(question, &opened?, lent),
+        Operation::Report => call_report(file, lent),
     }
 }
 
@@ -212,10 +216,28 @@ fn call_join(question: &Question, tables: &[Table], lent: &mut Lent) -> Result<R
         return refuse(14, 0);
     }
     let bytes: Vec<u8> = rows.iter().flat_map(body_form).collect();
+    put_bytes(&bytes, lent);
+    Ok(returned(vec![states, rows.len()]))
+}
+
+/// The text of `slots` for the file. That of a refused file is a text too, so
+/// only a slice shorter than the text is turned back.
+fn call_report(file: &[u8], lent: &mut Lent) -> Result<Returned, Refusal> {
+    let printed = report(file);
+    let bytes = printed.text.as_bytes();
+    if lent.first.len() < bytes.len() {
+        return refuse(14, 0);
+    }
+    put_bytes(bytes, lent);
+    let values = vec![bytes.len()];
+    Ok(Returned { values, part: Vec::new(), decisions: printed.decisions })
+}
+
+/// Writes bytes at the start of the first slice lent.
+fn put_bytes(bytes: &[u8], lent: &mut Lent) {
     for (place, byte) in bytes.iter().enumerate() {
         lent.first[place] = *byte as u16;
     }
-    Ok(returned(vec![states, rows.len()]))
 }
 
 /// The four bytes of a row: from, target, set.

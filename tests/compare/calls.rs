@@ -1,10 +1,11 @@
-//! Questions for `calls_test`: right ones, ones with faults, and ones at the
-//! limits of joining and of the moves of a pair.
+//! Questions for `calls_test`: right ones, ones with faults, ones at the limits
+//! of joining and of the moves of a pair, and reports.
 
 use crate::drafts::{draft, file_of, table_with_rows, Draft, DEMAND, SUPPLY};
 use crate::file::{open, Kind, Table, MOST_STATES};
 use crate::question::{Operation, Question};
 use crate::random::Random;
+use crate::report::report;
 use crate::rules::{combined_moves, join, Pair, Tables};
 
 /// The longest slice that a question can ask for.
@@ -37,21 +38,24 @@ const ALL_FAULTS: [Fault; 9] = [
     Fault::SecondLength,
 ];
 
-/// Every operation with every fault it can have, in turn.
-pub fn operation_and_fault(turn: usize) -> (Operation, Fault) {
-    let mut all = vec![(Operation::Body, Fault::FirstTable)];
+/// Every operation with every fault that makes it turn back, and more: Join gets
+/// wrong states and a wrong mode too, and Moves a wrong mode. This is meant:
+/// they must ignore them.
+pub fn operations_and_faults() -> Vec<(Operation, Fault)> {
+    let mut all =
+        vec![(Operation::Body, Fault::FirstTable), (Operation::Report, Fault::FirstLength)];
     for (operation, faults) in
         [(Operation::Moves, 8), (Operation::Decide, 8), (Operation::Run, 9), (Operation::Join, 8)]
     {
         all.extend(ALL_FAULTS[..faults].iter().map(|fault| (operation, *fault)));
     }
-    all[turn % all.len()]
+    all
 }
 
-/// A question that the file mostly allows; only the lengths may be too short.
+/// A question that the file mostly allows; only the lengths may be too short and
+/// the mode wrong.
 pub fn likely_question(random: &mut Random, file: &[u8], operation: Operation) -> Question {
-    let tables = open(file).unwrap_or_default();
-    let mut question = exact_question(random, &tables, operation);
+    let mut question = exact_question(random, file, operation);
     question.first_length = length_near(random, question.first_length);
     question.second_length = length_near(random, question.second_length);
     if random.chance(1, 32) {
@@ -61,7 +65,8 @@ pub fn likely_question(random: &mut Random, file: &[u8], operation: Operation) -
 }
 
 /// A question with slices exactly as long as the call asks for.
-pub fn exact_question(random: &mut Random, tables: &[Table], operation: Operation) -> Question {
+fn exact_question(random: &mut Random, file: &[u8], operation: Operation) -> Question {
+    let tables = &open(file).unwrap_or_default();
     let second_kind =
         if operation == Operation::Join { Kind::Demand } else { Kind::Supply };
     let any_table = random.below(tables.len().max(1));
@@ -86,7 +91,15 @@ pub fn exact_question(random: &mut Random, tables: &[Table], operation: Operatio
     if let (Some(first), Some(second)) = (tables.get(first_table), tables.get(second_table)) {
         set_exact_lengths(&mut question, first, second);
     }
+    if operation == Operation::Report {
+        question.first_length = length_of_report(file);
+    }
     question
+}
+
+/// The length of the text of `slots`, as far as a slice can be that long.
+fn length_of_report(file: &[u8]) -> usize {
+    report(file).text.len().min(LONGEST_SLICE)
 }
 
 /// The number of some table of a kind; any number where there is none.
@@ -101,8 +114,10 @@ fn table_of_kind(random: &mut Random, tables: &[Table], kind: Kind) -> usize {
 
 fn random_state(random: &mut Random, table: Option<&Table>, from_start: bool) -> usize {
     let states = table.map_or(4, |table| table.states);
+    if from_start && states > 1 {
+        return 1;
+    }
     match random.below(4) {
-        _ if from_start && states > 1 => 1,
         0 => states - 1,
         _ => random.below(states),
     }
@@ -111,7 +126,7 @@ fn random_state(random: &mut Random, table: Option<&Table>, from_start: bool) ->
 fn set_exact_lengths(question: &mut Question, first: &Table, second: &Table) {
     let count_of_pairs = first.states * second.states;
     match question.operation {
-        Operation::Open | Operation::Body => {}
+        Operation::Open | Operation::Body | Operation::Report => {}
         Operation::Moves => {
             let tables = Tables { demand: first, supply: second };
             let pair = Pair { demand: question.demand_state, supply: question.supply_state };
@@ -156,7 +171,7 @@ pub fn faulty_question(
     alone: bool,
 ) -> Question {
     let tables = open(file).unwrap_or_default();
-    let mut question = exact_question(random, &tables, operation);
+    let mut question = exact_question(random, file, operation);
     add_fault(random, &mut question, &tables, fault);
     let only_later = random.chance(3, 4);
     for other in ALL_FAULTS {
@@ -208,7 +223,7 @@ fn under(random: &mut Random, exact: usize) -> usize {
 }
 
 /// How many joins `join_at_limit` makes.
-pub const JOINS: usize = 16;
+const JOINS: usize = 16;
 
 /// Two demand tables whose join is at a limit, one past it, or has equal rows.
 /// `which` counts below `JOINS`.
@@ -265,7 +280,7 @@ pub fn join_at_limit(random: &mut Random, turn: usize) -> (Vec<u8>, Question) {
     let tables = tables_to_join(random, turn % JOINS);
     let file = file_of(&tables);
     let opened = open(&file).unwrap_or_default();
-    let mut question = exact_question(random, &opened, Operation::Join);
+    let mut question = exact_question(random, &file, Operation::Join);
     question.first_table = 0;
     question.second_table = 1;
     if random.chance(1, 4) {
@@ -310,7 +325,7 @@ pub fn wide_moves(random: &mut Random, which: usize) -> (Vec<u8>, Question) {
     (file_of(&[supply, demand]), question)
 }
 
-/// So many rows from state 1 that all request more than resources 0.
+/// So many rows from state 1 that all request a resource other than 0.
 fn unmet_rows(count: usize) -> Draft {
     let rows: Vec<(usize, usize, u16)> =
         (0..count).map(|index| (1, index % 2, 2 * (index as u16 + 1))).collect();
@@ -323,4 +338,32 @@ fn granting_rows(count: usize) -> Draft {
     let rows: Vec<(usize, usize, u16)> =
         (0..count).map(|index| (1, index % 64, (index / 64) as u16)).collect();
     draft(SUPPLY, 64, &rows)
+}
+
+/// How many lengths `report_question` asks for.
+pub const REPORT_LENGTHS: usize = 5;
+
+/// Report with the exact length, one less, none, somewhat more, or far more;
+/// `which` counts below `REPORT_LENGTHS`. The rest of the question is random,
+/// for nothing else of it matters.
+pub fn report_question(random: &mut Random, file: &[u8], which: usize) -> Question {
+    let exact = length_of_report(file);
+    let length = match which {
+        0 => exact,
+        1 => exact - 1,
+        2 => 0,
+        3 => exact + random.between(1, 20),
+        _ => random.pick(&[exact + 1000, exact + 4000, LONGEST_SLICE]),
+    };
+    let mut any = || random.below(65_536);
+    Question {
+        operation: Operation::Report,
+        mode: any() as u8,
+        first_table: any(),
+        demand_state: any(),
+        second_table: any(),
+        supply_state: any(),
+        first_length: length.min(LONGEST_SLICE),
+        second_length: any(),
+    }
 }

@@ -2,18 +2,19 @@
 //! of case in a fixed rotation.
 
 use crate::calls::{
-    faulty_question, join_at_limit, likely_question, operation_and_fault, wide_moves, WIDE,
+    faulty_question, join_at_limit, likely_question, operations_and_faults, report_question,
+    wide_moves, REPORT_LENGTHS, WIDE,
 };
 use crate::drafts::{
     branching, cycles_or_chain, file_of, largest_tables, odd_tables, random_tables,
-    tables_in_any_order,
+    tables_in_any_order, tables_of_one_kind,
 };
 use crate::examples::{Example, E};
 use crate::faults::{
     damaged_file, faulty_file, limit_file, noise, sound_file, two_faults, FAULTS, LIMITS,
     TWO_FAULTS,
 };
-use crate::question::{Operation, OPERATIONS};
+use crate::question::{Operation, OPERATIONS, QUESTION_LENGTH};
 use crate::random::Random;
 
 #[derive(Clone, Copy, PartialEq, Eq)]
@@ -58,7 +59,7 @@ const fn kind(name: &'static str, often: usize, make: fn(&mut Random, usize) -> 
     Kind { name, often, make }
 }
 
-const ROTATION: [Kind; 25] = [
+const ROTATION: [Kind; 26] = [
     kind("slots, random tables", 3, slots_random),
     kind("slots, cycles and chains", 1, slots_cycles),
     kind("slots, branching tables", 2, slots_branching),
@@ -83,6 +84,7 @@ const ROTATION: [Kind; 25] = [
     kind("calls, Join of random tables", 1, calls_join),
     kind("calls, Join at a limit", 1, calls_join_limit),
     kind("calls, very many moves", 1, calls_wide),
+    kind("calls, Report", 3, calls_report),
     kind("calls, no whole question", 1, calls_nothing),
 ];
 
@@ -211,31 +213,37 @@ fn calls_odd(random: &mut Random, turn: usize) -> Made {
     for_calls(likely_question(random, &file, asked[turn % 3]).before(&file))
 }
 
+/// The operations in turn.
+fn operation_at(turn: usize) -> Operation {
+    OPERATIONS[turn % OPERATIONS.len()]
+}
+
 fn calls_any_order(random: &mut Random, turn: usize) -> Made {
     let file = file_of(&tables_in_any_order(random));
-    for_calls(likely_question(random, &file, OPERATIONS[turn % 6]).before(&file))
+    for_calls(likely_question(random, &file, operation_at(turn)).before(&file))
 }
 
 fn calls_faulty_file(random: &mut Random, turn: usize) -> Made {
-    let operation = OPERATIONS[turn % 6];
-    let file = faulty_file(random, turn / 6 % FAULTS, turn < 6 * FAULTS);
-    for_calls(likely_question(random, &file, operation).before(&file))
+    let fault = turn / OPERATIONS.len() % FAULTS;
+    let alone = turn < OPERATIONS.len() * FAULTS;
+    let file = faulty_file(random, fault, alone);
+    for_calls(likely_question(random, &file, operation_at(turn)).before(&file))
 }
 
 fn calls_two_faults(random: &mut Random, turn: usize) -> Made {
     let file = two_faults(random, turn % TWO_FAULTS);
-    let operation = OPERATIONS[turn / 2 % 6];
-    for_calls(likely_question(random, &file, operation).before(&file))
+    for_calls(likely_question(random, &file, operation_at(turn)).before(&file))
 }
 
 fn calls_faulty_question(random: &mut Random, turn: usize) -> Made {
-    let (operation, fault) = operation_and_fault(turn);
+    let all = operations_and_faults();
+    let (operation, fault) = all[turn % all.len()];
     let tables = match random.below(8) {
         0 => tables_in_any_order(random),
         _ => random_tables(random),
     };
     let file = file_of(&tables);
-    let alone = turn < 34;
+    let alone = turn < all.len();
     for_calls(faulty_question(random, &file, operation, fault, alone).before(&file))
 }
 
@@ -244,7 +252,7 @@ fn calls_damaged(random: &mut Random, turn: usize) -> Made {
         0 => noise(random),
         _ => damaged_file(random),
     };
-    for_calls(likely_question(random, &file, OPERATIONS[turn % 6]).before(&file))
+    for_calls(likely_question(random, &file, operation_at(turn)).before(&file))
 }
 
 fn calls_limit(random: &mut Random, turn: usize) -> Made {
@@ -281,16 +289,32 @@ fn calls_wide(random: &mut Random, turn: usize) -> Made {
     for_calls(likely_question(random, &file, Operation::Moves).before(&file))
 }
 
-/// Questions cut short, and operations above 5; also whole ones in pieces.
+/// How many sorts of file Report gets.
+const REPORT_FILES: usize = 5;
+
+/// Files of each sort with every length that `report_question` asks for.
+fn calls_report(random: &mut Random, turn: usize) -> Made {
+    let round = turn / REPORT_FILES;
+    let file = match turn % REPORT_FILES {
+        0 => sound_file(random),
+        1 => faulty_file(random, round % FAULTS, true),
+        2 => file_of(&tables_of_one_kind(random)),
+        3 => damaged_file(random),
+        _ => file_of(&cycles_or_chain(random, round / REPORT_LENGTHS)),
+    };
+    for_calls(report_question(random, &file, round % REPORT_LENGTHS).before(&file))
+}
+
+/// Questions cut short, and operations above 6; also whole ones in pieces.
 fn calls_nothing(random: &mut Random, turn: usize) -> Made {
     let file = sound_file(random);
     let operation = random.pick(&OPERATIONS);
     let mut input = likely_question(random, &file, operation).before(&file);
     let mut pieces = 1;
     match turn % 4 {
-        0 => input.truncate(random.below(14)),
-        1 => input[0] = random.pick(&[6, 7, 255]),
-        2 => input.truncate(random.between(14, 15)),
+        0 => input.truncate(random.below(QUESTION_LENGTH)),
+        1 => input[0] = random.pick(&[7, 8, 255]),
+        2 => input.truncate(random.between(QUESTION_LENGTH, QUESTION_LENGTH + 1)),
         _ => pieces = random.between(2, 9),
     }
     Made { program: Program::Calls, input, pieces }

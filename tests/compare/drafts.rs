@@ -171,23 +171,31 @@ pub fn random_tables(random: &mut Random) -> Vec<Draft> {
     tables_of_kinds(random, &kinds, style)
 }
 
-/// 1 to 16 tables whose kinds come in every order; one kind may be missing.
+/// 1 to 16 tables whose kinds come in any order; one kind may be missing.
 pub fn tables_in_any_order(random: &mut Random) -> Vec<Draft> {
     let style = random_style(random);
     let count = random.between(1, 16);
-    let turn = random.below(count);
+    let changes_at = random.below(count);
     let order = random.below(6);
     let kind_at = |index: usize, random: &mut Random| match order {
         0 => DEMAND,
         1 => SUPPLY,
-        2 if index < turn => SUPPLY,
+        2 if index < changes_at => SUPPLY,
         2 => DEMAND,
-        3 if index < turn => DEMAND,
+        3 if index < changes_at => DEMAND,
         3 => SUPPLY,
         _ => random.pick(&[DEMAND, SUPPLY]),
     };
     let kinds: Vec<u8> = (0..count).map(|index| kind_at(index, random)).collect();
     tables_of_kinds(random, &kinds, style)
+}
+
+/// 1 to 4 tables, all of the same kind.
+pub fn tables_of_one_kind(random: &mut Random) -> Vec<Draft> {
+    let style = random_style(random);
+    let kind = random.pick(&[DEMAND, SUPPLY]);
+    let count = random.between(1, 4);
+    tables_of_kinds(random, &vec![kind; count], style)
 }
 
 /// Small tables with stuck states, FIN alone, empty sets and much idling.
@@ -268,7 +276,7 @@ fn longest_cycles(random: &mut Random) -> Vec<Draft> {
 
 /// A task that is a chain into a stuck state or FIN, with some rows that stay
 /// or skip, and a supply cycle that grants all or nothing.
-pub fn chain(random: &mut Random) -> Vec<Draft> {
+fn chain(random: &mut Random) -> Vec<Draft> {
     let length = random.between(1, 63);
     let into_fin = random.chance(1, 2);
     let mut demand = Vec::new();
@@ -331,8 +339,10 @@ pub fn branching(random: &mut Random) -> Vec<Draft> {
 
 /// Cycles and chains: turn 0 has 3,906 rounds, most others far fewer.
 pub fn cycles_or_chain(random: &mut Random, turn: usize) -> Vec<Draft> {
+    if turn == 0 {
+        return longest_cycles(random);
+    }
     match turn % 24 {
-        _ if turn == 0 => longest_cycles(random),
         1 | 7 | 13 | 19 => chain(random),
         5 => random_cycles(random, 40, 63),
         _ => random_cycles(random, 1, 24),

@@ -26,8 +26,13 @@ pub fn examples() -> Vec<Example> {
         examples_of_fin(),
         examples_of_waiting(),
         examples_of_more_grants(),
+        examples_of_pruning(),
+        examples_of_idling(),
+        examples_of_differing_runs(),
         examples_of_size(),
         examples_of_join(),
+        examples_of_rows_joined(),
+        examples_of_report(),
         examples_of_limits(),
         examples_of_empty_answers(),
     ];
@@ -67,10 +72,12 @@ fn demand_beside_supply(demand: Draft, supply: Draft) -> Vec<u8> {
     file_of(&[demand, supply])
 }
 
+/// What the paper prints for E.
+const PRINTED_OF_E: &str = "slots 38 bytes 2 tables\ndemand 0 supply 1 start 1 1\n\
+    full no rounds 2 kept 6\nstep 0 1\nstep 1 none\npartial yes rounds 2 kept 7\n";
+
 fn examples_of_e() -> Vec<Example> {
     use Operation::{Body, Decide, Moves, Open, Run};
-    let printed = "slots 38 bytes 2 tables\ndemand 0 supply 1 start 1 1\n\
-        full no rounds 2 kept 6\nstep 0 1\nstep 1 none\npartial yes rounds 2 kept 7\n";
     let calls = [
         (ask(Open, 0, [0, 0], [0, 0]), "0 0 2\n"),
         (ask(Body, 0, [0, 0], [0, 0]), "0 0\n1 2 1 0 1 3 2 0 2 0 1 0 3 0 2 0\n"),
@@ -92,7 +99,7 @@ fn examples_of_e() -> Vec<Example> {
         (ask(Decide, 2, [1, 1], [0, 0]), "15 0\n\n"),
         (ask(Decide, 2, [4, 1], [0, 0]), "13 0\n\n"),
     ];
-    let mut all = vec![of_slots("by hand, E", &E, printed)];
+    let mut all = vec![of_slots("by hand, E", &E, PRINTED_OF_E)];
     for (question, output) in calls {
         all.push(of_calls("by hand, E", question, &E, output));
     }
@@ -133,12 +140,16 @@ fn examples_of_waiting() -> Vec<Example> {
     all
 }
 
-/// State 1 requests nothing to FIN or {0} to 2, state 2 {0} to FIN.
+/// State 1 requests nothing to FIN or {0} to 2, state 2 {0} to FIN; the supply
+/// grants one set, then FIN.
+fn sixth_example(granted: u16) -> Vec<u8> {
+    let demand = draft(DEMAND, 3, &[(1, 0, 0), (1, 2, 1), (2, 0, 1)]);
+    demand_beside_supply(demand, draft(SUPPLY, 2, &[(1, 0, granted)]))
+}
+
 fn examples_of_more_grants() -> Vec<Example> {
     let name = "by hand, sixth example";
-    let demand = draft(DEMAND, 3, &[(1, 0, 0), (1, 2, 1), (2, 0, 1)]);
-    let nothing = demand_beside_supply(demand.clone(), draft(SUPPLY, 2, &[(1, 0, 0)]));
-    let granted = demand_beside_supply(demand, draft(SUPPLY, 2, &[(1, 0, 1)]));
+    let (nothing, granted) = (sixth_example(0), sixth_example(1));
     let run = "0 0 2\n0 0 0 2 1 0\n0 1 65535 65534 50004 50005 50006 50007 50008 50009 50010 \
         50011\n";
     let printed = "slots 30 bytes 2 tables\ndemand 0 supply 1 start 1 1\n\
@@ -152,6 +163,59 @@ fn examples_of_more_grants() -> Vec<Example> {
         all.push(of_calls(name, ask(Operation::Run, mode, [1, 1], [6, 12]), &granted, run));
     }
     all
+}
+
+/// The sixth example with supply {0}. In pair (1, 1) the move that requests
+/// nothing falls, as the other consumes more; in pair (1, 0) the move with {0}
+/// unmet falls; in pair (2, 0) such a move stays, as there is no other.
+fn examples_of_pruning() -> Vec<Example> {
+    let name = "by hand, pruning";
+    let file = sixth_example(1);
+    let moves = |states: [usize; 2], length: usize| ask(Operation::Moves, 0, states, [length, 0]);
+    vec![
+        of_calls(name, moves([1, 1], 6), &file, "0 0 1\n0 1 0 2 0 50005\n"),
+        of_calls(name, moves([1, 1], 4), &file, "14 0\n50000 50001 50002 50003\n"),
+        of_calls(name, moves([1, 0], 5), &file, "0 0 1\n0 0 0 0 0\n"),
+        of_calls(name, moves([2, 0], 5), &file, "0 0 1\n0 0 1 0 0\n"),
+    ]
+}
+
+/// FIN beside a supply that grants {0}, to FIN by row 0 and to a stuck state by
+/// row 1: the task idles in the slot of row 1.
+fn examples_of_idling() -> Vec<Example> {
+    let name = "by hand, FIN beside a supply";
+    let supply = draft(SUPPLY, 3, &[(1, 0, 1), (1, 2, 1)]);
+    let file = demand_beside_supply(draft(DEMAND, 1, &[]), supply);
+    let printed = "slots 22 bytes 2 tables\ndemand 0 supply 1 start 0 1\n\
+        full no rounds 2 kept 1\nstep 1 idle\nstep none none\n\
+        partial no rounds 2 kept 1\nstep 1 idle\nstep none none\n";
+    let run = "0 0 2\n0 2 1\n1 65535 65534 65534 50004 50005\n";
+    vec![
+        of_slots(name, &file, printed),
+        of_calls(name, ask(Operation::Run, 0, [0, 1], [3, 6]), &file, run),
+        of_calls(name, ask(Operation::Run, 1, [0, 1], [3, 6]), &file, run),
+    ]
+}
+
+/// Supply row 0 grants {0}, to which task row 0 leads to a kept pair and task
+/// row 1 to a struck one; supply row 1 grants {1}, to which task row 2 leads to
+/// a struck one. So full takes rows 0 and 1, and partial rows 1 and 2.
+fn examples_of_differing_runs() -> Vec<Example> {
+    let name = "by hand, runs that differ";
+    let demand = draft(DEMAND, 3, &[(1, 0, 1), (1, 2, 1), (1, 2, 2)]);
+    let file = demand_beside_supply(demand, draft(SUPPLY, 2, &[(1, 0, 1), (1, 0, 2)]));
+    let printed = "slots 34 bytes 2 tables\ndemand 0 supply 1 start 1 1\n\
+        full no rounds 2 kept 2\nstep 0 1\nstep idle none\n\
+        partial no rounds 2 kept 2\nstep 1 2\nstep idle none\n";
+    let full = "0 0 2\n0 0 1 2 1 1\n0 1 65535 65534 50004 50005 50006 50007 50008 50009 50010 \
+        50011\n";
+    let partial = "0 0 2\n0 0 1 2 1 1\n1 2 65535 65534 50004 50005 50006 50007 50008 50009 50010 \
+        50011\n";
+    vec![
+        of_slots(name, &file, printed),
+        of_calls(name, ask(Operation::Run, 0, [1, 1], [6, 12]), &file, full),
+        of_calls(name, ask(Operation::Run, 1, [1, 1], [6, 12]), &file, partial),
+    ]
 }
 
 /// {0} and {1, 2} are both maximal under {0, 1, 2}; the second leads to a stuck
@@ -188,6 +252,48 @@ fn examples_of_join() -> Vec<Example> {
     ]
 }
 
+/// Two tables with a and b rows from state 1 to FIN, where no row of the one
+/// shares a resource with a row of the other, give a + b + a × b rows: 512 for
+/// 26 and 18, 513 for 1 and 256. 17 is answered before 14.
+fn examples_of_rows_joined() -> Vec<Example> {
+    let name = "by hand, rows joined";
+    let rows = |count: u16, worth: u16| {
+        let rows: Vec<(usize, usize, u16)> =
+            (0..count).map(|index| (1, 0, index * worth)).collect();
+        draft(DEMAND, 2, &rows)
+    };
+    let most = file_of(&[rows(26, 1), rows(18, 256)]);
+    let too_many = file_of(&[rows(1, 1), rows(256, 256)]);
+    let join = |length: usize| ask(Operation::Join, 0, [0, 0], [length, 0]);
+    vec![
+        of_calls(name, join(0), &most, "14 0\n\n"),
+        of_calls(name, join(0), &too_many, "17 0\n\n"),
+        of_calls(name, join(4), &too_many, "17 0\n0 1 2 3\n"),
+    ]
+}
+
+/// Report on E, on the empty file, and on a file without a supply.
+fn examples_of_report() -> Vec<Example> {
+    let name = "by hand, Report";
+    let report = |length: usize| ask(Operation::Report, 2, [99, 99], [length, 0]);
+    let codes: Vec<String> = PRINTED_OF_E.bytes().map(|byte| byte.to_string()).collect();
+    let of_e = format!("0 0 125\n{}\n", codes.join(" "));
+    let before: Vec<String> = (0..124).map(|byte: u8| byte.to_string()).collect();
+    let refused = "114 101 102 117 115 101 100 32 49 32 97 116 32 48 10";
+    let kindless = file_of(&[draft(DEMAND, 1, &[])]);
+    let refused_kind = "0 0 16\n114 101 102 117 115 101 100 32 49 50 32 97 116 32 48 10 16\n";
+    let unchanged = "14 0\n0 1 2 3 4 5 6 7 8 9 10 11 12 13\n";
+    vec![
+        of_calls(name, report(125), &E, &of_e),
+        of_calls(name, report(124), &E, &format!("14 0\n{}\n", before.join(" "))),
+        of_calls(name, report(15), &[], &format!("0 0 15\n{refused}\n")),
+        of_calls(name, report(17), &[], &format!("0 0 15\n{refused} 15 16\n")),
+        of_calls(name, report(14), &[], unchanged),
+        of_calls(name, report(0), &[], "14 0\n\n"),
+        of_calls(name, report(17), &kindless, refused_kind),
+    ]
+}
+
 fn examples_of_limits() -> Vec<Example> {
     let name = "by hand, limits";
     let open = ask(Operation::Open, 0, [0, 0], [0, 0]);
@@ -219,7 +325,7 @@ fn examples_of_empty_answers() -> Vec<Example> {
     let name = "by hand, no whole question";
     let whole = ask(Operation::Open, 0, [0, 0], [0, 0]).before(&[]);
     let mut unknown = whole.clone();
-    unknown[0] = 6;
+    unknown[0] = 7;
     let nothing = |input: Vec<u8>| Example {
         name,
         program: Program::Calls,

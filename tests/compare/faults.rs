@@ -261,7 +261,8 @@ pub fn damaged_file(random: &mut Random) -> Vec<u8> {
     file
 }
 
-/// Random bytes; half of the time they begin like a file.
+/// Random bytes. In three quarters of the cases k is 1 to 4, and in half of them
+/// the first entry is one that a file with that k may have.
 pub fn noise(random: &mut Random) -> Vec<u8> {
     let length = random.pick(&[0, 1, 2, 3, 7, 8, 14, 20, 60, 200]);
     let mut file = random.bytes(length);

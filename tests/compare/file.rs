@@ -5,7 +5,7 @@ use std::ops::Range;
 
 /// `slots` reads at most this many bytes; one more than the longest file.
 pub const LONGEST_READ: usize = 32_867;
-pub const MOST_TABLES: usize = 16;
+const MOST_TABLES: usize = 16;
 pub const MOST_STATES: usize = 64;
 pub const MOST_ROWS: usize = 512;
 

@@ -13,16 +13,18 @@ pub enum Operation {
     Decide,
     Run,
     Join,
+    Report,
 }
 
 /// All operations, each at its number.
-pub const OPERATIONS: [Operation; 6] = [
+pub const OPERATIONS: [Operation; 7] = [
     Operation::Open,
     Operation::Body,
     Operation::Moves,
     Operation::Decide,
     Operation::Run,
     Operation::Join,
+    Operation::Report,
 ];
 
 #[derive(Clone, Copy)]

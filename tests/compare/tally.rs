@@ -5,8 +5,12 @@ use crate::cases::Program;
 use crate::question::Question;
 use crate::rules::Mode;
 
-const COLUMNS: [&str; 7] = ["slots", "Open", "Body", "Moves", "Decide", "Run", "Join"];
+const COLUMNS: [&str; 8] =
+    ["slots", "Open", "Body", "Moves", "Decide", "Run", "Join", "Report"];
 const NUMBERS: usize = 18;
+const VERDICTS: [&str; 3] = ["full yes", "full no with partial yes", "partial no"];
+/// Some run must have so many steps or more.
+const LONG_RUN: usize = 3_906;
 
 pub struct Tally {
     answers: [[usize; COLUMNS.len()]; NUMBERS],
@@ -16,8 +20,7 @@ pub struct Tally {
     partial_yes: usize,
     partial_no: usize,
     longest_run: usize,
-    /// Of `slots`: full yes; full no with partial yes; partial no.
-    verdicts_of_slots: [usize; 3],
+    verdicts_of_slots: [usize; VERDICTS.len()],
 }
 
 impl Tally {
@@ -30,7 +33,7 @@ impl Tally {
             partial_yes: 0,
             partial_no: 0,
             longest_run: 0,
-            verdicts_of_slots: [0; 3],
+            verdicts_of_slots: [0; VERDICTS.len()],
         }
     }
 
@@ -46,7 +49,7 @@ impl Tally {
         for decision in &answer.decisions {
             self.count_decision(decision);
         }
-        if let [full, partial] = answer.decisions[..] {
+        if let (Program::Slots, [full, partial]) = (program, &answer.decisions[..]) {
             self.verdicts_of_slots[!full.yes as usize + !partial.yes as usize] += 1;
         }
     }
@@ -69,7 +72,7 @@ impl Tally {
                 self.answers[number][column] += other.answers[number][column];
             }
         }
-        for verdict in 0..3 {
+        for verdict in 0..VERDICTS.len() {
             self.verdicts_of_slots[verdict] += other.verdicts_of_slots[verdict];
         }
         self.nothing_printed += other.nothing_printed;
@@ -100,13 +103,17 @@ impl Tally {
         println!("questions to which nothing is printed: {}", self.nothing_printed);
         println!("full: {} yes, {} no", self.full_yes, self.full_no);
         println!("partial: {} yes, {} no", self.partial_yes, self.partial_no);
-        let [full_yes, only_partial, partial_no] = self.verdicts_of_slots;
-        print!("slots: {full_yes} full yes, {only_partial} full no with partial yes, ");
-        println!("{partial_no} partial no");
+        let words: Vec<String> = VERDICTS
+            .iter()
+            .zip(self.verdicts_of_slots)
+            .map(|(name, count)| format!("{count} {name}"))
+            .collect();
+        println!("slots: {}", words.join(", "));
         println!("longest run: {} steps", self.longest_run);
     }
 
-    /// The calls and numbers that no case hit, as sentences.
+    /// What no case hit, as sentences: numbers of the calls, verdicts of `slots`,
+    /// a long run.
     pub fn missing(&self) -> Vec<String> {
         let mut sentences = Vec::new();
         for number in 0..NUMBERS {
@@ -115,6 +122,14 @@ impl Tally {
                     sentences.push(format!("no case of {name} answered {number}"));
                 }
             }
+        }
+        for (name, count) in VERDICTS.iter().zip(self.verdicts_of_slots) {
+            if count == 0 {
+                sentences.push(format!("no case of slots was {name}"));
+            }
+        }
+        if self.longest_run < LONG_RUN {
+            sentences.push(format!("no run had {LONG_RUN} steps or more"));
         }
         sentences
     }
@@ -128,6 +143,7 @@ fn can_answer(column: usize, number: usize) -> bool {
         "Body" => number <= 11,
         "Moves" => number <= 14,
         "Join" => number <= 12 || [14, 16, 17].contains(&number),
+        "Report" => number == 0 || number == 14,
         _ => number <= 15,
     }
 }

@@ -1,4 +1,4 @@
-// Each call with slices of the length asked for, and what it leaves.
+// Each call with slices of the length asked for, cut from the buffers that `main` lends, and what it leaves in them.
 use crate::lines;
 use checker::Counted;
 use checker::Decided;
@@ -40,9 +40,9 @@ fn moves_in(file: &[u8], question: Question, out: &mut [u16]) {
     lines::entries(out);
 }
 
-pub(crate) fn moves(file: &[u8], question: Question, room: usize, whole: &mut [u16]) {
-    if room <= whole.len() {
-        moves_in(file, question, &mut whole[..room]);
+pub(crate) fn moves(file: &[u8], question: Question, length: usize, buffer: &mut [u16]) {
+    if length <= buffer.len() {
+        moves_in(file, question, &mut buffer[..length]);
     }
 }
 
@@ -62,9 +62,15 @@ fn decide_in(file: &[u8], question: Question, mode: usize, marks: &mut [u16]) {
     lines::entries(marks);
 }
 
-pub(crate) fn decide(file: &[u8], question: Question, mode: usize, room: usize, whole: &mut [u16]) {
-    if room <= whole.len() {
-        decide_in(file, question, mode, &mut whole[..room]);
+pub(crate) fn decide(
+    file: &[u8],
+    question: Question,
+    mode: usize,
+    length: usize,
+    buffer: &mut [u16],
+) {
+    if length <= buffer.len() {
+        decide_in(file, question, mode, &mut buffer[..length]);
     }
 }
 
@@ -76,17 +82,17 @@ fn run_in(file: &[u8], question: Question, mode: usize, marks: &mut [u16], steps
     lines::entries(steps);
 }
 
-// The second slice is cut to its length here, the first by `run`.
-fn run_half(
+// The slice for steps is cut here, the one for marks by `run`.
+fn run_cut(
     file: &[u8],
     question: Question,
     mode: usize,
     marks: &mut [u16],
-    room: usize,
-    whole: &mut [u16],
+    length: usize,
+    buffer: &mut [u16],
 ) {
-    if room <= whole.len() {
-        run_in(file, question, mode, marks, &mut whole[..room]);
+    if length <= buffer.len() {
+        run_in(file, question, mode, marks, &mut buffer[..length]);
     }
 }
 
@@ -94,13 +100,20 @@ pub(crate) fn run(
     file: &[u8],
     question: Question,
     mode: usize,
-    room: usize,
-    whole: &mut [u16],
-    more: usize,
-    other: &mut [u16],
+    length: usize,
+    buffer: &mut [u16],
+    steps_length: usize,
+    steps_buffer: &mut [u16],
 ) {
-    if room <= whole.len() {
-        run_half(file, question, mode, &mut whole[..room], more, other);
+    if length <= buffer.len() {
+        run_cut(
+            file,
+            question,
+            mode,
+            &mut buffer[..length],
+            steps_length,
+            steps_buffer,
+        );
     }
 }
 
@@ -119,8 +132,20 @@ fn join_in(file: &[u8], first: usize, second: usize, out: &mut [u8]) {
     lines::bytes(out);
 }
 
-pub(crate) fn join(file: &[u8], first: usize, second: usize, room: usize, whole: &mut [u8]) {
-    if room <= whole.len() {
-        join_in(file, first, second, &mut whole[..room]);
+pub(crate) fn join(file: &[u8], first: usize, second: usize, length: usize, buffer: &mut [u8]) {
+    if length <= buffer.len() {
+        join_in(file, first, second, &mut buffer[..length]);
+    }
+}
+
+fn report_in(file: &[u8], out: &mut [u8]) {
+    lines::fill_bytes(out);
+    counted(report::write(file, out));
+    lines::bytes(out);
+}
+
+pub(crate) fn report_text(file: &[u8], length: usize, buffer: &mut [u8]) {
+    if length <= buffer.len() {
+        report_in(file, &mut buffer[..length]);
     }
 }

@@ -11,6 +11,7 @@ pub(crate) fn byte(s: &[u8], at: usize) -> usize
     0
 }
 
+// `at` is a place in the question, so the one behind it is a number too.
 pub(crate) fn word(s: &[u8], at: usize) -> usize
     requires { ⌜ at < 100 ⌝ }
     ensures { λ r. ⌜ r < 65536 ⌝ }
@@ -51,7 +52,7 @@ pub(crate) fn refused(refusal: Refusal) {
     end();
 }
 
-// The line of a call that returns nothing but its number and place, or the start of a longer one.
+// The start of the line of a call that is carried out.
 pub(crate) fn carried_out() {
     io::write_all(1, b"0 0");
 }

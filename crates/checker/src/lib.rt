@@ -36,7 +36,7 @@ pub struct Question {
     pub supply: Side,
 }
 
-// What Moves of a pair and Run answer: the count of moves or of steps, or why the call is turned back.
+// What a call that writes a list answers: how many moves, steps or bytes there are, or why the call is turned back.
 pub enum Counted {
     Count(usize),
     Refused(Refusal),

@@ -273,6 +273,20 @@ count-within s room count e = go (ltb room (length (text s))) refl e
     go false f a = let same : count ≡ length (text s) = ap (λ (x : Answer). getD (x .values) 0 0) a in let most : length (text s) ≤ room = ltb-false room (length (text s)) f in omega arith
 
 -- with room for the longest text no call is turned back
-pub always-written : (s : List ℕ) (room : ℕ) → 385321 ≤ room → reportAnswer s room ≡ carriedOut (length (text s) ∷ [])
-unfolding reportAnswer roomFault fault
-always-written s room h = let fits = text-fits s in let enough : length (text s) ≤ room = omega arith in rw (le-ltb room (length (text s)) enough) refl
+module _ (s : List ℕ) (room : ℕ) (h : 385321 ≤ room) where
+  enough : ltb room (length (text s)) ≡ false
+  enough = let fits = text-fits s in le-ltb room (length (text s)) (let few : length (text s) ≤ room = omega arith in few)
+
+  pub always-written : reportAnswer s room ≡ carriedOut (length (text s) ∷ [])
+  unfolding reportAnswer roomFault fault
+  always-written = rw enough refl
+
+  pub never-refused : (r : Refusal) → turnedBack r ≡ reportAnswer s room → ⊥
+  never-refused r e = let none : 0 ≡ length (length (text s) ∷ []) = ap (λ (x : Answer). length (x .values)) (e ∙ always-written) in omega arith
+
+  pub whole-count : (count : ℕ) → carriedOut (count ∷ []) ≡ reportAnswer s room → count ≡ length (text s)
+  whole-count count e = ap (λ (x : Answer). getD (x .values) 0 0) (e ∙ always-written)
+
+pub bytes-written : (s entry : List ℕ) → 385321 ≤ length entry → reportBytes s entry ≡ overwrite (text s) entry
+unfolding reportBytes roomFault fault
+bytes-written s entry h = rw (enough s (length entry) h) refl

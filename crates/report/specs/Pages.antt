@@ -1,4 +1,4 @@
--- A text that is composed and not yet written: the refusal, or the answers with the steps of both modes.
+-- A page: the text for a file, composed and not yet written. It is the refusal, or the answers, with the steps of both modes in slices beside them.
 use Prim.Native.Nat.{ℕ, _*_, _^_, _≤_, _<_}
 use mathlib.Core.List.{List, [], _∷_, _++_}
 use lib.Dec.{eqb}
@@ -28,11 +28,12 @@ pageText (Refused r) full partial = refusedLine r
 pageText (Answered a) full partial =
     fileLine (a .bytes) (a .tables) ++ startLine (a .question) ++ foundText Full (a .full) full ++ foundText Partial (a .partial) partial
 
--- the steps lie in their slices, and the text's length is a number of 64 bits
+-- the steps lie in their slices
 abbrev pub StepsIn : Page → List ℕ → List ℕ → Type 0
 StepsIn (Refused r) full partial = Unit
 StepsIn (Answered a) full partial = (2 * a .full .steps ≤ length full) × (2 * a .partial .steps ≤ length partial)
 
+-- and the text's length is a number of 64 bits
 pub record Whole (page : Page) (full partial : List ℕ) : Type 0 where
   pub steps-in : StepsIn page full partial
   pub short : length (pageText page full partial) < 2 ^ 64

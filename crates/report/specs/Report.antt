@@ -48,17 +48,17 @@ questionOf s = record { demand = startSide s (firstDemand s); supply = startSide
 unfoldable pub programChecks : List ℕ → Checked
 programChecks s = fileFault s then fault (leb (tablesOf s) (firstDemand s)) 12 0 then fault (leb (tablesOf s) (firstSupply s)) 12 0
 
--- a mode's line, for the pair (t, w); "Step lines follow a no": from a pair that is kept there are no slots
+-- a mode's line and its step lines, from the pair (t, w); "Step lines follow a no": from a pair that is kept there are no slots
 unfoldable pub modeText : Mode → Machine → Machine → ℕ → ℕ → List ℕ
 modeText mode D S t w =
     verdictLine mode (eqb (mark mode D S t w) 0) (rounds mode D S) (keptCount mode D S)
     ++ flatMap (λ c. stepLine (c .supply .row) (c .task .row)) (slots mode D S (mark mode D S t w) t w)
 
--- full, then partial
+-- the same for two tables and a start pair
 abbrev pub decisionText : Mode → List ℕ → Question → List ℕ
 decisionText mode s q = modeText mode (demandOf s q) (supplyOf s q) (q .demand .state) (q .supply .state)
 
--- "A refusal prints only the line"
+-- "A refusal prints only the line"; else the lines of both modes, full first
 abbrev pub textAfter : Checked → List ℕ → List ℕ
 textAfter (Fault r) s = refusedLine r
 textAfter Passed s =
@@ -67,7 +67,8 @@ textAfter Passed s =
 unfoldable pub text : List ℕ → List ℕ
 text s = textAfter (programChecks s) s
 
--- 14 where the lent bytes are fewer than the text; room is how many are lent
+-- The text is printed, so document 01 lends no bytes for it, and a file that is turned back has a text like any other. One number can turn the call
+-- itself back, and it is ours: 14 where the lent bytes are fewer than the text; room is how many are lent.
 unfoldable pub roomFault : List ℕ → ℕ → Checked
 roomFault s room = fault (ltb room (length (text s))) 14 0
 

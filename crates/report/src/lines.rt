@@ -21,8 +21,8 @@ pub(crate) fn put_field(out: &mut [u8], at: usize, words: &[u8], n: usize) -> us
     ensures place { λ r. ⌜ r ≡ at + length (now (words .entry) ++ decimal n) ⌝ }
     ensures bytes { λ r. ⌜ now (out .exit) ≡ writeAt at (now (words .entry) ++ decimal n) (now (out .entry)) ⌝ }
 {
-    let next = put(out, at, words);
-    put_decimal(out, next, n)
+    let at = put(out, at, words);
+    put_decimal(out, at, n)
 }
 
 pub(crate) fn put_refused(out: &mut [u8], at: usize, refusal: Refusal) -> usize
@@ -30,9 +30,9 @@ pub(crate) fn put_refused(out: &mut [u8], at: usize, refusal: Refusal) -> usize
     ensures place { λ r. ⌜ r ≡ at + length (refusedLine refusal) ⌝ }
     ensures bytes { λ r. ⌜ now (out .exit) ≡ writeAt at (refusedLine refusal) (now (out .entry)) ⌝ }
 {
-    let number = put_field(out, at, b"refused ", refusal.number as usize);
-    let place = put_field(out, number, b" at ", refusal.place);
-    put(out, place, b"\n")
+    let at = put_field(out, at, b"refused ", refusal.number as usize);
+    let at = put_field(out, at, b" at ", refusal.place);
+    put(out, at, b"\n")
 }
 
 pub(crate) fn put_file(out: &mut [u8], at: usize, bytes: usize, tables: usize) -> usize
@@ -40,9 +40,9 @@ pub(crate) fn put_file(out: &mut [u8], at: usize, bytes: usize, tables: usize) -
     ensures place { λ r. ⌜ r ≡ at + length (fileLine bytes tables) ⌝ }
     ensures bytes { λ r. ⌜ now (out .exit) ≡ writeAt at (fileLine bytes tables) (now (out .entry)) ⌝ }
 {
-    let read = put_field(out, at, b"slots ", bytes);
-    let count = put_field(out, read, b" bytes ", tables);
-    put(out, count, b" tables\n")
+    let at = put_field(out, at, b"slots ", bytes);
+    let at = put_field(out, at, b" bytes ", tables);
+    put(out, at, b" tables\n")
 }
 
 pub(crate) fn put_start(out: &mut [u8], at: usize, question: Question) -> usize
@@ -50,11 +50,11 @@ pub(crate) fn put_start(out: &mut [u8], at: usize, question: Question) -> usize
     ensures place { λ r. ⌜ r ≡ at + length (startLine question) ⌝ }
     ensures bytes { λ r. ⌜ now (out .exit) ≡ writeAt at (startLine question) (now (out .entry)) ⌝ }
 {
-    let demand = put_field(out, at, b"demand ", question.demand.table);
-    let supply = put_field(out, demand, b" supply ", question.supply.table);
-    let task = put_field(out, supply, b" start ", question.demand.state);
-    let offer = put_field(out, task, b" ", question.supply.state);
-    put(out, offer, b"\n")
+    let at = put_field(out, at, b"demand ", question.demand.table);
+    let at = put_field(out, at, b" supply ", question.supply.table);
+    let at = put_field(out, at, b" start ", question.demand.state);
+    let at = put_field(out, at, b" ", question.supply.state);
+    put(out, at, b"\n")
 }
 
 fn put_mode_word(out: &mut [u8], at: usize, mode: Mode) -> usize
@@ -85,11 +85,11 @@ pub(crate) fn put_verdict(out: &mut [u8], at: usize, mode: Mode, verdict: Verdic
     ensures place { λ r. ⌜ r ≡ at + length (verdictLine mode (verdict .yes) (verdict .rounds) (verdict .kept)) ⌝ }
     ensures bytes { λ r. ⌜ now (out .exit) ≡ writeAt at (verdictLine mode (verdict .yes) (verdict .rounds) (verdict .kept)) (now (out .entry)) ⌝ }
 {
-    let word = put_mode_word(out, at, mode);
-    let answer = put_verdict_word(out, word, verdict.yes);
-    let rounds = put_field(out, answer, b" rounds ", verdict.rounds as usize);
-    let kept = put_field(out, rounds, b" kept ", verdict.kept as usize);
-    put(out, kept, b"\n")
+    let at = put_mode_word(out, at, mode);
+    let at = put_verdict_word(out, at, verdict.yes);
+    let at = put_field(out, at, b" rounds ", verdict.rounds as usize);
+    let at = put_field(out, at, b" kept ", verdict.kept as usize);
+    put(out, at, b"\n")
 }
 
 // A row's number, or its word.
@@ -112,11 +112,11 @@ fn put_step(out: &mut [u8], at: usize, supply: u16, task: u16) -> usize
     ensures place { λ r. ⌜ r ≡ at + length (stepLine supply task) ⌝ }
     ensures bytes { λ r. ⌜ now (out .exit) ≡ writeAt at (stepLine supply task) (now (out .entry)) ⌝ }
 {
-    let word = put(out, at, b"step ");
-    let offer = put_row(out, word, supply);
-    let space = put(out, offer, b" ");
-    let taken = put_row(out, space, task);
-    put(out, taken, b"\n")
+    let at = put(out, at, b"step ");
+    let at = put_row(out, at, supply);
+    let at = put(out, at, b" ");
+    let at = put_row(out, at, task);
+    put(out, at, b"\n")
 }
 
 // The steps of a run, supply row and task row of each.

@@ -1,4 +1,4 @@
-// A text that is composed and not yet written: what has to be printed, and the steps beside it. So its length is known before a byte is written.
+// A page: the text for a file, composed and not yet written, with the steps of both modes beside it. So its length is known before a byte is written.
 ghost use Prim.Native.Nat.{_+_, _*_, _^_, _≤_, _<_};
 ghost use mathlib.Core.Path.{_≡_};
 ghost use lib.ListN.{length};
@@ -21,6 +21,7 @@ use checker::Side;
 use checker::Verdict;
 use rules::Limits;
 use rules::Mode;
+use rules::Row;
 use tables::Entry;
 use tables::Opened;
 use tables::Refusal;
@@ -28,10 +29,10 @@ use tables::entry_at;
 use tables::open;
 use tables::refusal_of;
 
-// Room for the marks of the most pairs there can be, and for the longest run.
+// Entries for the marks of the most pairs there can be, and for the longest run.
 const PAIRS: usize = Limits::STATES * Limits::STATES;
 
-pub(crate) const STEPS: usize = 2 * PAIRS;
+pub(crate) const STEP_ENTRIES: usize = 2 * PAIRS;
 
 // What a mode finds: the verdict, and how many steps show a no.
 pub struct Found {
@@ -50,7 +51,7 @@ impl Found {
     }
 }
 
-// What an accepted file's text tells.
+// What the text tells of a file that has both kinds of table.
 pub struct Answers {
     pub bytes: usize,
     pub tables: usize,
@@ -83,7 +84,8 @@ fn start_side(file: &[u8], table: usize) -> Side
 {
     let entry = entry_at(file, table);
     if entry.states == 1 {
-        return Side { table, state: 0 };
+        let state = Row::FIN as usize;
+        return Side { table, state };
     }
     Side { table, state: 1 }
 }
@@ -148,9 +150,9 @@ fn put_found(out: &mut [u8], at: usize, mode: Mode, found: Found, steps: &[u16])
     ensures place { λ r. ⌜ r ≡ at + length (foundText mode found (now (steps .entry))) ⌝ }
     ensures bytes { λ r. ⌜ now (out .exit) ≡ writeAt at (foundText mode found (now (steps .entry))) (now (out .entry)) ⌝ }
 {
-    let line = put_verdict(out, at, mode, found.verdict);
+    let at = put_verdict(out, at, mode, found.verdict);
     let end = 2 * found.steps;
-    put_steps(out, line, &steps[..end])
+    put_steps(out, at, &steps[..end])
 }
 
 fn put_answers(out: &mut [u8], answers: Answers, full: &[u16], partial: &[u16]) -> usize
@@ -158,10 +160,10 @@ fn put_answers(out: &mut [u8], answers: Answers, full: &[u16], partial: &[u16]) 
     ensures place { λ r. ⌜ r ≡ length (pageText (Answered answers) (now (full .entry)) (now (partial .entry))) ⌝ }
     ensures bytes { λ r. ⌜ now (out .exit) ≡ writeAt 0 (pageText (Answered answers) (now (full .entry)) (now (partial .entry))) (now (out .entry)) ⌝ }
 {
-    let file = put_file(out, 0, answers.bytes, answers.tables);
-    let start = put_start(out, file, answers.question);
-    let every = put_found(out, start, Mode::Full, answers.full, full);
-    put_found(out, every, Mode::Partial, answers.partial, partial)
+    let at = put_file(out, 0, answers.bytes, answers.tables);
+    let at = put_start(out, at, answers.question);
+    let at = put_found(out, at, Mode::Full, answers.full, full);
+    put_found(out, at, Mode::Partial, answers.partial, partial)
 }
 
 // Writes a text that is composed, as far as the buffer reaches, and returns its length.

@@ -1,5 +1,5 @@
 // Text in a lent buffer: a piece is written from a place on, as far as the buffer reaches, and the place behind it is returned. So the same
-// function counts a text, with an empty buffer, and writes it. Relies on `rules` for what a slice holds, and on `io` for the digits of a number.
+// function counts a text, with the shortest of buffers, and writes it. Relies on `rules` for what a slice holds, and on `io` for the digits of a number.
 ghost use Prim.Native.Nat.{_+_, _^_, _<_};
 ghost use mathlib.Core.Path.{_≡_};
 ghost use lib.ListN.{length};

@@ -1,5 +1,6 @@
-use mathlib.Core.Path.{sym, _∙_}
+use mathlib.Core.Path.{sym, ap}
 use native.Mathlib.Omega.{arith}
+use lib.ListN.{length}
 use Rattle.text.proofs.TextLaws.{decimal-spelled}
 use borrow.Author.Needs.{needs}
 use Rattle.text.proofs.put_decimal.Statement.{statement}
@@ -23,7 +24,7 @@ slice-aggregate-put c = search needs
 
 -- src/lib.rt:32:5
 put-requires : tie.Need-put-requires
-put-requires c κs = rw (decimal-spelled _ _ _ (let n = c .before .before .before .before .before .fits in omega arith) (c .before .before .decimal .ensures .1 .0) (c .before .before .decimal .ensures .1 .1)) (c .before .before .before .before .before .pre)
+put-requires c κs = let digits = ap length (decimal-spelled _ _ _ (let n = c .before .before .before .before .before .fits in omega arith) (c .before .before .decimal .ensures .1 .0) (c .before .before .decimal .ensures .1 .1)) in let room = c .before .before .before .before .before .pre in omega arith
 
 -- src/lib.rt:25:1
 same-length : tie.Need-same-length

@@ -5,14 +5,14 @@ use borrow.Author.Needs.{needs}
 use Rattle.calls_test.proofs.calls.run.Statement.{statement}
 use Rattle.calls_test.proofs.calls.run.Tie as tie
 
-slice-relend-prefix-run-half : tie.Need-slice-relend-prefix-run-half
-slice-relend-prefix-run-half c = search needs
+slice-relend-prefix-run-cut : tie.Need-slice-relend-prefix-run-cut
+slice-relend-prefix-run-cut c = search needs
 
-slice-aggregate-run-half : tie.Need-slice-aggregate-run-half
-slice-aggregate-run-half c = sym (length-take-le _ _ (c .before .if1 .taken))
+slice-aggregate-run-cut : tie.Need-slice-aggregate-run-cut
+slice-aggregate-run-cut c = sym (length-take-le _ _ (c .before .if1 .taken))
 
-run-half-requires : tie.Need-run-half-requires
-run-half-requires c κs = search needs
+run-cut-requires : tie.Need-run-cut-requires
+run-cut-requires c κs = search needs
 
 same-length : tie.Need-same-length
 same-length c = search needs
@@ -30,9 +30,9 @@ pub run-spec : {M : Type 1} → statement M
 run-spec =
     tie.close
     (tie.spec
-    slice-relend-prefix-run-half
-    slice-aggregate-run-half
-    run-half-requires
+    slice-relend-prefix-run-cut
+    slice-aggregate-run-cut
+    run-cut-requires
     same-length
     same-length-2
     returns

@@ -30,13 +30,13 @@ new-requires : tie.Need-new-requires
 new-requires c κs = search needs
 
 returns-2 : tie.Need-returns-2
-returns-2 c = rw (c .new .ensures) (refused-page _ _ _ _ (text-no-demand _ _ (c .before .before .before .before .before .before .before .«open» .ensures) _ (c .before .before .before .before .before .found .given .1) _ (c .before .before .before .first-table .ensures) (c .before .if1 .taken)))
+returns-2 c = rw (c .new .ensures) (refused-page _ _ _ _ (text-no-demand _ _ (c .before .before .before .before .before .before .before .«open» .ensures) _ (c .before .before .before .before .before .found .given .1) _ (c .before .before .before .first-table .ensures) (let past = c .before .if1 .taken in omega arith)))
 
 new-requires-2 : tie.Need-new-requires-2
 new-requires-2 c κs = search needs
 
 returns-3 : tie.Need-returns-3
-returns-3 c = rw (c .new2 .ensures) (refused-page _ _ _ _ (text-no-supply _ _ (c .before .before .before .before .before .before .before .before .«open» .ensures) _ (c .before .before .before .before .before .before .found .given .1) _ (c .before .before .before .before .first-table .ensures) _ (c .before .before .before .first-table2 .ensures) (c .before .before .if1 .left) (c .before .if2 .taken)))
+returns-3 c = rw (c .new2 .ensures) (refused-page _ _ _ _ (text-no-supply _ _ (c .before .before .before .before .before .before .before .before .«open» .ensures) _ (c .before .before .before .before .before .before .found .given .1) _ (c .before .before .before .before .first-table .ensures) _ (c .before .before .before .first-table2 .ensures) (c .before .before .if1 .left) (let past = c .before .if2 .taken in omega arith)))
 
 start-side-requires : tie.Need-start-side-requires
 start-side-requires c κs = search needs

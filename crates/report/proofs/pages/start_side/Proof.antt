@@ -10,6 +10,9 @@ use Rattle.report.proofs.pages.start_side.Tie as tie
 entry-at-requires : tie.Need-entry-at-requires
 entry-at-requires c κs = search needs
 
+cast-state : tie.Need-cast-state
+cast-state c = search needs
+
 returns : tie.Need-returns
 returns c = ap (λ k. record { table = c .before .before .before .before .args .table; state = k }) (sym (start-one _ (ap (λ (e : Entry). e .states) (sym (c .before .before .entry-at .ensures)) ∙ c .if1 .taken)))
 
@@ -17,4 +20,4 @@ returns-2 : tie.Need-returns-2
 returns-2 c = ap (λ k. record { table = c .before .before .before .before .args .table; state = k }) (sym (start-other _ (λ e. c .if1 .left (ap (λ (e : Entry). e .states) (c .before .before .entry-at .ensures) ∙ e))))
 
 pub start-side-spec : {M : Type 1} → statement M
-start-side-spec = tie.close (tie.spec entry-at-requires returns returns-2)
+start-side-spec = tie.close (tie.spec entry-at-requires cast-state returns returns-2)

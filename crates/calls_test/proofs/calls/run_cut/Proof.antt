@@ -1,9 +1,9 @@
--- `calls_test::calls::run_half` is safe and ends. The part that is lent has the length asked for.
+-- `calls_test::calls::run_cut` is safe and ends. The part that is lent has the length asked for.
 use mathlib.Core.Path.{sym}
 use lib.Seq.{length-take-le}
 use borrow.Author.Needs.{needs}
-use Rattle.calls_test.proofs.calls.run_half.Statement.{statement}
-use Rattle.calls_test.proofs.calls.run_half.Tie as tie
+use Rattle.calls_test.proofs.calls.run_cut.Statement.{statement}
+use Rattle.calls_test.proofs.calls.run_cut.Tie as tie
 
 slice-relend-prefix-run-in : tie.Need-slice-relend-prefix-run-in
 slice-relend-prefix-run-in c = search needs
@@ -26,8 +26,8 @@ returns c = search needs
 returns-2 : tie.Need-returns-2
 returns-2 c = search needs
 
-pub run-half-spec : {M : Type 1} → statement M
-run-half-spec =
+pub run-cut-spec : {M : Type 1} → statement M
+run-cut-spec =
     tie.close
     (tie.spec
     slice-relend-prefix-run-in
