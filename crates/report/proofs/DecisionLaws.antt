@@ -1,7 +1,6 @@
 -- What Decide and Run answer about a pair that was asked about, with room for the most pairs there can be. Relies on the laws of `checker`.
 use Prim.Native.Nat.{ℕ, suc, _*_, _≤_}
-use mathlib.Core.Path.{_≡_, refl, sym, ap, _∙_}
-use mathlib.Core.Bool.{Bool}
+use mathlib.Core.Path.{_≡_, refl, ap, _∙_}
 use mathlib.Core.List.{List, [], _∷_}
 use native.Mathlib.Nat.{mul-le-mul}
 use native.Mathlib.Omega.{arith}
@@ -14,21 +13,17 @@ use Rattle.rules.specs.Rounds.{mark, keptCount, rounds}
 use Rattle.rules.specs.Steps.{steps}
 use Rattle.rules.proofs.BelowLaws.{one-same}
 use Rattle.tables.specs.declared.Refusal.{Refusal}
-use Rattle.tables.specs.declared.Checked.{Checked}
 use Rattle.tables.specs.declared.Checked.the-variants.{Passed}
 use Rattle.tables.specs.Answers.{Answer, answer, carriedOut, turnedBack}
-use Rattle.tables.specs.File.{entryOf}
 use Rattle.checker.specs.declared.Question.{Question}
 use Rattle.checker.specs.declared.Verdict.{Verdict}
-use Rattle.checker.specs.Answers.{sliceAfter}
 use Rattle.checker.specs.Pairs.{PairAccepted, demandOf, supplyOf}
-use Rattle.checker.specs.Decide.{modeOf, decideChecks, decideAnswer}
+use Rattle.checker.specs.Decide.{modeOf, decideAnswer}
 use Rattle.checker.specs.Run.{runChecks, runAnswer, runSteps}
 use Rattle.checker.proofs.PairLaws.{asked-demand, asked-supply, states-few}
 use Rattle.checker.proofs.DecideLaws.{none-fault}
 use Rattle.checker.proofs.RunLaws.{no-fault}
 use Rattle.report.specs.declared.pages.Found.{Found}
-use Rattle.report.specs.Pages.{foundOf}
 
 -- values that are returned are no refusal
 values-refused : (r : Refusal) (x : ℕ) (xs : List ℕ) → turnedBack r ≡ carriedOut (x ∷ xs) → ⊥

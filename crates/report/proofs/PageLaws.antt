@@ -1,13 +1,12 @@
 -- A text that is composed, written piece by piece. Relies on the laws of `text`.
-use Prim.Native.Nat.{ℕ, _+_, _*_, _^_, _≤_, _<_}
-use mathlib.Core.Path.{_≡_, refl, sym, ap, _∙_}
-use mathlib.Core.List.{List, _++_}
-use native.Mathlib.Omega.{arith}
+use Prim.Native.Nat.{ℕ, _+_, _*_}
+use mathlib.Core.Path.{_≡_}
+use mathlib.Core.List.{List}
 use lib.ListN.{length, take, length-append}
 use Rattle.rules.specs.declared.Mode.{Mode}
 use Rattle.rules.specs.declared.Mode.the-variants.{Full, Partial}
 use Rattle.rules.specs.Slices.{writeAt}
-use Rattle.text.proofs.TextLaws.{room-first, room-next, put-both}
+use Rattle.text.proofs.TextLaws.{put-both}
 use Rattle.report.specs.declared.pages.Found.{Found}
 use Rattle.report.specs.declared.pages.Answers.{Answers}
 use Rattle.report.specs.declared.pages.Page.the-variants.{Answered}

@@ -1,10 +1,10 @@
 -- The text by what the checks find, how long it can be, and the composed text. Relies on the laws of lines, of tables and of decisions.
-use Prim.Native.Nat.{ℕ, suc, _+_, _*_, _^_, _≤_, _<_}
+use Prim.Native.Nat.{ℕ, _+_, _*_, _^_, _≤_, _<_}
 use mathlib.Core.Path.{_≡_, refl, sym, ap, _∙_}
-use mathlib.Core.Bool.{Bool, true, false, not, cond}
+use mathlib.Core.Bool.{Bool, true, false, not}
 use mathlib.Core.List.{List, [], _∷_, _++_, flatMap}
 use native.Mathlib.Omega.{arith}
-use lib.Dec.{leb, ltb, eqb}
+use lib.Dec.{ltb, eqb}
 use lib.ListN.{length, getD, take, drop, length-append}
 use lib.Seq.{take-at}
 use borrow.Author.Tests.{ltb-false, leb-false, lt-ltb, le-ltb, le-leb, lt-leb, eq-eqb}
@@ -34,7 +34,6 @@ use Rattle.checker.specs.declared.Question.{Question}
 use Rattle.checker.specs.Decide.{modeOf}
 use Rattle.checker.specs.Named.{namedFault}
 use Rattle.checker.specs.Pairs.{pairFault, PairAccepted, demandOf, supplyOf}
-use Rattle.text.specs.Text.{decimal}
 use Rattle.text.proofs.TextLaws.{length-decimal}
 use Rattle.report.specs.Lines.{refusedLine, fileLine, startLine, modeWord, verdictWord, verdictLine, stepLine}
 use Rattle.report.specs.Report.{firstOf, firstDemand, firstSupply, startOf, startSide, questionOf, programChecks, modeText, decisionText, textAfter, text, roomFault, reportAnswer, reportBytes}

@@ -41,6 +41,7 @@ pub struct Found {
 }
 
 impl Found {
+    // Stands where a call is turned back, which none is.
     fn nothing() -> Self {
         let verdict = Verdict {
             yes: false,

@@ -3,9 +3,8 @@ use Prim.Native.Nat.{ℕ, zero, suc, _+_, _*_, _/_, _%_, _^_, _-_, _≤_, _<_}
 use mathlib.Core.Path.{_≡_, refl, sym, ap, _∙_}
 use mathlib.Core.Bool.{Bool, true, false, cond}
 use mathlib.Core.List.{List, [], _∷_, _++_}
-use mathlib.Core.Logic.{_⊎_, inl, inr}
 use native.Mathlib.Omega.{arith}
-use lib.Dec.{T, ltb}
+use lib.Dec.{ltb}
 use native.Mathlib.Nat.{pow-suc, pow-le-pow-right}
 use lib.ListN.{length, getD, take, drop, set, drop-of-length-le, length-append}
 use lib.Seq.{drop-cons, set-out}
@@ -47,13 +46,6 @@ ahead-all {at} {piece} {before} {i} {out} a h = ap (λ (l : List ℕ). writeAt (
 module _ (at : ℕ) (xs ys : List ℕ) where
   together : length (xs ++ ys) ≡ length xs + length ys
   together = length-append xs ys
-
-  -- where there is room for both, there is room for the first, and behind it for the second
-  pub room-first : at + length (xs ++ ys) < 2 ^ 64 → at + length xs < 2 ^ 64
-  room-first h = omega (arith, together)
-
-  pub room-next : {b : ℕ} → at + length (xs ++ ys) < 2 ^ 64 → b ≡ at + length xs → b + length ys < 2 ^ 64
-  room-next h e = omega (arith, together)
 
   -- two pieces written make one
   pub put-both : (before : List ℕ) {b r : ℕ} {mid after : List ℕ} → (b ≡ at + length xs) × (mid ≡ writeAt at xs before)

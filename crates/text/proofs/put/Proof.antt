@@ -9,8 +9,6 @@ use Rattle.rules.proofs.SliceLaws.{length-writeAt}
 use borrow.Author.Needs.{needs}
 use Rattle.text.proofs.put.Statement.{statement}
 use Rattle.text.proofs.put.Tie as tie
-use Rattle.text.proofs.put.Reads as reads
-use Rattle.text.proofs.put.Lts as lts
 
 abbrev Inv-loop : tie.InvT-loop
 Inv-loop out₀ at piece i₀ i-end out i = (i ≤ length piece) × Ahead at piece out₀ i out
@@ -18,43 +16,33 @@ Inv-loop out₀ at piece i₀ i-end out i = (i ≤ length piece) × Ahead at pie
 abbrev μ-loop : tie.MeasureT-loop
 μ-loop out₀ at piece i₀ i-end out i = i-end - i
 
--- src/lib.rt:15:5
 loop-holds : tie.Need-loop-holds Inv-loop μ-loop
 loop-holds c = ((omega arith), ahead-none _ _ _)
 
--- src/lib.rt:16:21
 add-place : tie.Need-add-place Inv-loop μ-loop
 add-place c = (let room = c .before .before .pre in let here = c .loop-test .taken in omega arith)
 
--- src/lib.rt:18:26
 shared-slice-read-out : tie.Need-shared-slice-read-out Inv-loop μ-loop
 shared-slice-read-out c = c .before .before .loop-test .taken
 
--- src/lib.rt:18:13
 slice-write-out : tie.Need-slice-write-out Inv-loop μ-loop
 slice-write-out c = search needs
 
--- src/lib.rt:15:9
 add-i : tie.Need-add-i Inv-loop μ-loop
 add-i c = search needs
 
--- src/lib.rt:15:5
 loop-less : tie.Need-loop-less Inv-loop μ-loop
 loop-less c = search needs
 
--- src/lib.rt:15:5
 loop-again : tie.Need-loop-again Inv-loop μ-loop
 loop-again c = ((let here = c .before .loop-test .taken in omega arith), ⊎-elim (λ w. rw (w .2) (ahead-written (c .before .before .loop .inv .1) (c .before .loop-test .taken))) (λ w. rw (w .1) (ahead-past (c .before .before .loop .inv .1) (c .before .loop-test .taken) (w .0 .left))) (c .if1 .came))
 
--- src/lib.rt:21:5
 add-result : tie.Need-add-result Inv-loop μ-loop
 add-result c = let room = c .before .before .pre in omega arith
 
--- src/lib.rt:10:1
 same-length : tie.Need-same-length Inv-loop μ-loop
 same-length c = ap length (ahead-all (c .before .loop .inv .1) (c .loop-test .left)) ∙ length-writeAt _ _ _
 
--- src/lib.rt:10:1
 returns : tie.Need-returns Inv-loop μ-loop
 returns c = (refl, ahead-all (c .before .loop .inv .1) (c .loop-test .left))
 

@@ -1,5 +1,5 @@
 -- `report::lines::put_steps` meets its contract. The invariant: the lines still to come, written to the buffer as it is, give all lines written.
-use Prim.Native.Nat.{_/_, _-_}
+use Prim.Native.Nat.{_-_}
 use mathlib.Core.Path.{ap, _∙_}
 use native.Mathlib.Omega.{arith}
 use lib.ListN.{length}

@@ -1,7 +1,6 @@
 -- `report::pages::find` meets its contract. Nothing turns back a call about a pair that was asked about, with room for the most pairs.
-use mathlib.Core.Path.{ap, _∙_}
+use mathlib.Core.Path.{_∙_}
 use native.Mathlib.Omega.{arith}
-use Rattle.checker.specs.declared.Verdict.{Verdict}
 use Rattle.checker.specs.Answers.{counted, decided}
 use Rattle.report.proofs.DecisionLaws.{decide-refused, decide-answered, run-refused, run-counted, run-steps, found-is}
 use borrow.Author.Needs.{needs}

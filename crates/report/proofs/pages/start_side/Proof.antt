@@ -1,7 +1,6 @@
 -- `report::pages::start_side` meets its contract.
-use mathlib.Core.Path.{_≡_, sym, ap, _∙_}
+use mathlib.Core.Path.{sym, ap, _∙_}
 use Rattle.tables.specs.declared.reads.Entry.{Entry}
-use Rattle.checker.specs.declared.Side.{Side}
 use Rattle.report.proofs.TableLaws.{start-one, start-other}
 use borrow.Author.Needs.{needs}
 use Rattle.report.proofs.pages.start_side.Statement.{statement}
