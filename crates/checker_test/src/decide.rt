@@ -2,22 +2,16 @@
 use crate::CHOICES;
 use crate::DRAWN;
 use crate::EXAMPLE;
-use crate::cycles::digest;
-use crate::cycles::put_cycles;
 use crate::lines::ENTRIES;
 use crate::lines::field;
 use crate::lines::fill;
 use crate::lines::label;
-use crate::lines::number;
 use crate::lines::pair;
 use crate::lines::unchanged;
 use crate::lines::write_entries;
 use checker::Decided;
 use checker::Question;
 use checker::Verdict;
-
-// More entries than any two tables have pairs.
-const LONG: usize = 4100;
 
 // Lends the first `room` entries of an array.
 fn lend(file: &[u8], question: Question, mode: usize, room: usize, marks: &mut [u16]) -> Decided {
@@ -164,45 +158,6 @@ fn edges() {
     drawn(7, 6, 1, 1, 64, 16);
 }
 
-// Decides two cycles with so many pairs from states 1, in an array of many entries, and writes the answer, the first marks, a digest of all,
-// and how many of the entries past them are unchanged.
-fn cycles(tasks: u8, offers: u8, mode: usize, pairs: usize, shown: usize) {
-    let mut file = [0u8; 518];
-    let mut marks = [0u16; LONG];
-    put_cycles(&mut file, tasks, offers);
-    fill(&mut marks);
-    let len = 14 + 4 * tasks as usize + 4 * offers as usize;
-    field(b"cycles", tasks as usize);
-    number(offers as usize);
-    field(b", mode", mode);
-    io::write_all(1, b":");
-    if len <= 518 {
-        match checker::decide(&file[0..len], pair(0, 1, 1, 1), mode, &mut marks) {
-            Decided::Answered(verdict) => {
-                write_verdict(verdict);
-                write_entries(&marks, shown);
-                field(b", digest", digest(&marks, pairs));
-                field(b", unchanged", unchanged(&marks, pairs));
-                io::write_all(1, b"\n");
-            }
-            Decided::Refused(refusal) => {
-                write_refusal(refusal.number as usize, refusal.place, unchanged(&marks, 0));
-            }
-        }
-    }
-}
-
-// Short ones, one of 3,906 rounds, and one with as many pairs as two tables can have.
-fn chains() {
-    for mode in 0..2 {
-        cycles(1, 1, mode, 4, 4);
-        cycles(2, 3, mode, 12, 12);
-        cycles(3, 2, mode, 12, 12);
-        cycles(63, 62, mode, 4032, 0);
-        cycles(63, 63, mode, 4096, 0);
-    }
-}
-
 pub(crate) fn run() {
     starts(0);
     starts(1);
@@ -210,5 +165,4 @@ pub(crate) fn run() {
     refusals();
     edges();
     choices();
-    chains();
 }

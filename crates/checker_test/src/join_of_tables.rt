@@ -1,7 +1,7 @@
 // Join, on small tables and at the limits; and decisions about joined tables.
-use crate::cycles::mixed;
-use crate::cycles::put;
-use crate::cycles::put_entry;
+use crate::files::mixed;
+use crate::files::put;
+use crate::files::put_entry;
 use crate::lines::field;
 use crate::lines::number;
 use crate::lines::pair;

@@ -1,8 +1,8 @@
-// Runs the calls about a pair on document 01's file E, on tables drawn for the edges (F, G and H) and on long cycles, and Join on tables of its own
+// Runs the calls about a pair on document 01's file E, on tables drawn for the edges (F, G and H), and Join on tables of its own
 // (J and larger ones), and writes every answer, the entries or bytes written, and how many of the others are unchanged. The file `stdout`
 // beside this folder has the answers that are due. Relies on `checker`.
-mod cycles;
 mod decide;
+mod files;
 mod join_of_tables;
 mod lines;
 mod moves_of_pair;

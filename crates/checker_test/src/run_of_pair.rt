@@ -2,13 +2,10 @@
 use crate::DRAWN;
 use crate::EXAMPLE;
 use crate::RUNS;
-use crate::cycles::digest;
-use crate::cycles::put_cycles;
 use crate::lines::ENTRIES;
 use crate::lines::field;
 use crate::lines::fill;
 use crate::lines::label;
-use crate::lines::number;
 use crate::lines::pair;
 use crate::lines::unchanged;
 use crate::lines::write_entries;
@@ -21,10 +18,8 @@ struct Rooms {
     steps: usize,
 }
 
-// More entries than any two tables need for their marks, and for the steps of a run.
-const LONG_MARKS: usize = 4100;
-
-const LONG_STEPS: usize = 8200;
+// More steps than any run has.
+const LONG_RUN: usize = 8200;
 
 // Lends the first entries of two arrays.
 fn lend(
@@ -54,7 +49,7 @@ fn lend(
 
 // How many entries so many steps take.
 fn entries(count: usize) -> usize {
-    if LONG_STEPS < count {
+    if LONG_RUN < count {
         return 0;
     }
     2 * count
@@ -175,81 +170,9 @@ fn edges() {
     shown(14, 1, 0, 4);
 }
 
-// Asks for a run from states 1, and writes the first steps, a digest of all, how many of the entries past them are unchanged, and a digest of
-// the array that the marks are written to.
-fn ask_long(file: &[u8], mode: usize, rooms: Rooms) {
-    let mut marks = [0u16; LONG_MARKS];
-    let mut steps = [0u16; LONG_STEPS];
-    fill(&mut marks);
-    fill(&mut steps);
-    match lend(file, pair(0, 1, 1, 1), mode, rooms, &mut marks, &mut steps) {
-        Counted::Count(count) => {
-            field(b" steps", count);
-            write_entries(&steps, 12);
-            field(b", digest", digest(&steps, entries(count)));
-            field(b", unchanged", unchanged(&steps, entries(count)));
-            field(b", digest of marks", digest(&marks, LONG_MARKS));
-            io::write_all(1, b"\n");
-        }
-        Counted::Refused(refusal) => {
-            write_refusal(refusal.number as usize, refusal.place, &marks, &steps);
-        }
-    }
-}
-
-// A run along two cycles.
-fn cycles(tasks: u8, offers: u8, mode: usize, rooms: Rooms) {
-    let mut file = [0u8; 518];
-    put_cycles(&mut file, tasks, offers);
-    let len = 14 + 4 * tasks as usize + 4 * offers as usize;
-    field(b"cycles", tasks as usize);
-    number(offers as usize);
-    field(b", mode", mode);
-    field(b", room for steps", rooms.steps);
-    label(pair(0, 1, 1, 1), rooms.marks);
-    if len <= 518 {
-        ask_long(&file[0..len], mode, rooms);
-    }
-}
-
-// Short ones, and one of 3,906 slots, with just enough room and with one entry too few for either.
-fn chains() {
-    let short = Rooms {
-        marks: 12,
-        steps: 24,
-    };
-    cycles(2, 3, 0, short);
-    cycles(3, 2, 1, short);
-    let exact = Rooms {
-        marks: 4032,
-        steps: 8064,
-    };
-    cycles(63, 62, 0, exact);
-    cycles(63, 62, 1, exact);
-    cycles(
-        63,
-        62,
-        0,
-        Rooms {
-            marks: 4031,
-            steps: 8064,
-        },
-    );
-    cycles(
-        63,
-        62,
-        0,
-        Rooms {
-            marks: 4032,
-            steps: 8063,
-        },
-    );
-}
-
 pub(crate) fn run() {
     starts();
     short_and_long();
     refusals();
     edges();
-    chains();
 }
