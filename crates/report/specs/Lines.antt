@@ -28,10 +28,12 @@ startLine q =
     field "demand " (q .demand .table) ++ field " supply " (q .supply .table)
     ++ field " start " (q .demand .state) ++ field " " (q .supply .state) ++ ascii "\n"
 
+-- the line of a mode begins with its name
 abbrev pub modeWord : Mode → List ℕ
 modeWord Full = ascii "full "
 modeWord Partial = ascii "partial "
 
+-- the verdict, `yes` or `no`
 unfoldable pub verdictWord : Bool → List ℕ
 verdictWord answer = cond answer (ascii "yes") (ascii "no")
 

@@ -23,6 +23,7 @@ unfoldable pub foundText : Mode → Found → List ℕ → List ℕ
 foundText mode found steps =
     verdictLine mode (found .verdict .yes) (found .verdict .rounds) (found .verdict .kept) ++ stepLines (take (2 * found .steps) steps)
 
+-- the text of a page
 abbrev pub pageText : Page → List ℕ → List ℕ → List ℕ
 pageText (Refused r) full partial = refusedLine r
 pageText (Answered a) full partial =

@@ -38,9 +38,11 @@ firstSupply s = firstOf s 2 (tablesOf s)
 unfoldable pub startOf : ℕ → ℕ
 startOf n = cond (eqb n 1) 0 1
 
+-- a table with the state that it is started from
 abbrev pub startSide : List ℕ → ℕ → Side
 startSide s table = record { table = table; state = startOf (entryOf s table .states) }
 
+-- what is asked: the two tables, each from its start
 abbrev pub questionOf : List ℕ → Question
 questionOf s = record { demand = startSide s (firstDemand s); supply = startSide s (firstSupply s) }
 
@@ -64,6 +66,7 @@ textAfter (Fault r) s = refusedLine r
 textAfter Passed s =
     fileLine (length s) (tablesOf s) ++ startLine (questionOf s) ++ decisionText Full s (questionOf s) ++ decisionText Partial s (questionOf s)
 
+-- the whole text, by what the checks find
 unfoldable pub text : List ℕ → List ℕ
 text s = textAfter (programChecks s) s
 
