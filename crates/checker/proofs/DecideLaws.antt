@@ -5,16 +5,16 @@ use mathlib.Core.List.{List, [], _∷_}
 use native.Mathlib.Omega.{arith}
 use lib.Arith.{digits-lt}
 use lib.Dec.{ltb, eqb}
-use lib.ListN.{length, getD, take, drop}
+use lib.ListN.{length}
 use borrow.Author.Tests.{lt-ltb, le-ltb, ltb-false}
 use Rattle.rules.specs.declared.Mode.{Mode}
+use Rattle.rules.specs.declared.Pair.{Pair}
 use Rattle.rules.specs.Below.{one}
 use Rattle.rules.specs.Slices.{overwrite}
 use Rattle.rules.specs.Machines.{Machine}
 use Rattle.rules.specs.Rounds.{mark, markAt, marks}
-use Rattle.rules.proofs.SliceLaws.{overwrite-entry, length-overwrite}
+use Rattle.rules.proofs.SliceLaws.{overwrite-entry}
 use Rattle.rules.proofs.MarkLaws.{marks-entry, length-marks}
-use Rattle.tables.specs.declared.reads.Entry.{Entry}
 use Rattle.tables.specs.declared.Refusal.{Refusal}
 use Rattle.tables.specs.declared.Checked.{Checked}
 use Rattle.tables.specs.declared.Checked.the-variants.{Passed, Fault}
@@ -22,17 +22,18 @@ use Rattle.tables.specs.declared.Opened.{Opened}
 use Rattle.tables.specs.declared.Opened.the-variants.{Tables, Refused}
 use Rattle.tables.specs.Checks.{refuse, fault, _then_}
 use Rattle.tables.specs.Answers.{turnedBack, carriedOut, opened}
-use Rattle.tables.specs.File.{tablesOf, entryOf, bodyLength}
+use Rattle.tables.specs.File.{tablesOf}
 use Rattle.tables.specs.Open.{openOf}
 use Rattle.tables.proofs.CheckLaws.{fault-passed, then-left, then-right}
 use Rattle.tables.proofs.AcceptedLaws.{tables-passed, refused-fault}
-use Rattle.marks.specs.declared.Sizes.{Sizes}
+use Rattle.machines.specs.Memory.{statesIn, machineIn}
 use Rattle.marks.specs.declared.Summary.{Summary}
-use Rattle.marks.specs.Rounds.{TwoTables, HasMarks, demandIn, supplyIn, marksIn, summaryIn}
+use Rattle.marks.specs.Responses.{HasMarks}
+use Rattle.marks.specs.InPlace.{summaryOf}
 use Rattle.checker.specs.declared.Question.{Question}
-use Rattle.checker.specs.Pairs.{pairFault, PairAccepted, demandOf, supplyOf}
+use Rattle.checker.specs.Pairs.{pairFault, PairAccepted, demandOf, supplyOf, pairOf, PairLoaded}
 use Rattle.checker.specs.Decide.{modeOf, decideFault, decideChecks, decideAnswer, decideSlice}
-use Rattle.checker.proofs.PairLaws.{pair-asked, asked-demand, asked-supply, states-few, sorted-body, body-machine, machine-sound}
+use Rattle.checker.proofs.PairLaws.{pair-asked, asked-demand, asked-supply}
 
 -- a mark that is written stands at its entry
 marked-entry : (mode : Mode) (D S : Machine) (l : List ℕ) (t s : ℕ) → t < D .n → s < S .n → markAt (S .n) (overwrite (marks mode D S) l) t s ≡ mark mode D S t s
@@ -81,74 +82,33 @@ module _ (s : List ℕ) (q : Question) (mode : ℕ) where
       unfolding decideFault _then_ fault
       no-fault = rw (a .pair, le-ltb 1 mode known) refl
 
-      -- the entries of the two tables, as they are read
-      module _ (d : Entry) (e : d ≡ entryOf s (q .demand .table)) (u : Entry) (f : u ≡ entryOf s (q .supply .table)) where
-        pub pairs-are : d .states * u .states ≡ demandOf s q .n * supplyOf s q .n
-        pairs-are = ap₂ (λ (x y : Entry). x .states * y .states) e f
+      pub short-fault : (room : ℕ) → room < demandOf s q .n * supplyOf s q .n → decideChecks s q mode room ≡ Fault (refuse 14 0)
+      unfolding decideChecks _then_ fault
+      short-fault room l = rw (a .file, no-fault, lt-ltb room (demandOf s q .n * supplyOf s q .n) l) refl
 
-        pub short-fault : (room : ℕ) → room < d .states * u .states → decideChecks s q mode room ≡ Fault (refuse 14 0)
-        unfolding decideChecks _then_ fault
-        short-fault room l =
-            let short : room < demandOf s q .n * supplyOf s q .n = omega (arith, pairs-are) in
-            rw (a .file, no-fault, lt-ltb room (demandOf s q .n * supplyOf s q .n) short) refl
+      pub none-fault : (room : ℕ) → demandOf s q .n * supplyOf s q .n ≤ room → decideChecks s q mode room ≡ Passed
+      unfolding decideChecks _then_ fault
+      none-fault room l = rw (a .file, no-fault, le-ltb room (demandOf s q .n * supplyOf s q .n) l) refl
 
-        pub none-fault : (room : ℕ) → d .states * u .states ≤ room → decideChecks s q mode room ≡ Passed
-        unfolding decideChecks _then_ fault
-        none-fault room l =
-            let long : demandOf s q .n * supplyOf s q .n ≤ room = omega (arith, pairs-are) in
-            rw (a .file, no-fault, le-ltb room (demandOf s q .n * supplyOf s q .n) long) refl
+      -- carried out: the start's mark tells yes or no, and the marks stand before the rest of the slice
+      module _ {demand supply : List ℕ} (x : PairLoaded s q demand supply) (m : Mode) (same : m ≡ modeOf mode) (entry exit : List ℕ)
+          (left : exit ≡ overwrite (marks m (machineIn demand) (machineIn supply)) entry) where
+        pub marks-written : exit ≡ overwrite (marks (modeOf mode) (demandOf s q) (supplyOf s q)) entry
+        marks-written = left ∙ rw (same, x .demand-is, x .supply-is) refl
 
-        -- the bodies, as they are found
-        module _ (b : List ℕ) (part : b ≡ take (bodyLength d) (drop (d .offset) s)) (g : List ℕ) (piece : g ≡ take (bodyLength u) (drop (u .offset) s)) where
-          abbrev sizes : Sizes
-          sizes = record { demand = d .states; supply = u .states }
+        -- the mark that is read
+        start-mark : {p : Pair} {v : ℕ} → p ≡ pairOf q → v ≡ markAt (statesIn supply) exit (p .demand) (p .supply)
+            → v ≡ mark (modeOf mode) (demandOf s q) (supplyOf s q) (q .demand .state) (q .supply .state)
+        start-mark e f =
+            f ∙ ap (λ (z : Pair). markAt (statesIn supply) exit (z .demand) (z .supply)) e
+            ∙ ap₂ (λ (n : ℕ) (l : List ℕ). markAt n l (q .demand .state) (q .supply .state)) (ap (λ (M : Machine). M .n) (x .supply-is)) marks-written
+            ∙ marked-entry (modeOf mode) (demandOf s q) (supplyOf s q) entry (q .demand .state) (q .supply .state) (asked-demand s q a .state) (asked-supply s q a .state)
 
-          pub two-tables : TwoTables b g sizes
-          two-tables = record {
-            demand-rows = sorted-body s (q .demand .table) (q .demand .state) (asked-demand s q a) d e b part;
-            supply-rows = sorted-body s (q .supply .table) (q .supply .state) (asked-supply s q a) u f g piece;
-            demand-few = states-few s (q .demand .table) (q .demand .state) (asked-demand s q a) d e;
-            supply-few = states-few s (q .supply .table) (q .supply .state) (asked-supply s q a) u f;
-            demand-sound = machine-sound s (q .demand .table) (q .demand .state) (asked-demand s q a) d e b part;
-            supply-sound = machine-sound s (q .supply .table) (q .supply .state) (asked-supply s q a) u f g piece;
-          }
-
-          pub demand-is : demandIn b sizes ≡ demandOf s q
-          demand-is = body-machine s (q .demand .table) (q .demand .state) (asked-demand s q a) d e b part
-
-          pub supply-is : supplyIn g sizes ≡ supplyOf s q
-          supply-is = body-machine s (q .supply .table) (q .supply .state) (asked-supply s q a) u f g piece
-
-          -- the start pair's entry is one of the marks
-          pub start-within : q .demand .state * u .states + q .supply .state < d .states * u .states
-          start-within =
-              let one : q .demand .state < demandOf s q .n = asked-demand s q a .state in
-              let two : q .supply .state < supplyOf s q .n = asked-supply s q a .state in
-              let height : d .states ≡ demandOf s q .n = ap (λ (x : Entry). x .states) e in
-              let width : u .states ≡ supplyOf s q .n = ap (λ (x : Entry). x .states) f in
-              rw (height, width) (digits-lt one two)
-
-          -- carried out: the start's mark tells yes or no, and the marks stand before the rest of the slice
-          module _ (m : Mode) (same : m ≡ modeOf mode) (entry exit : List ℕ) (room : d .states * u .states ≤ length entry)
-              (left : exit ≡ overwrite (marksIn m b g sizes) entry) (sum : Summary) (told : sum ≡ summaryIn m b g sizes) where
-            written : exit ≡ overwrite (marks (modeOf mode) (demandOf s q) (supplyOf s q)) entry
-            written = left ∙ rw (same, demand-is, supply-is) refl
-
-            pub marks-long : d .states * u .states ≤ length exit
-            marks-long = rw (left, length-overwrite (marksIn m b g sizes) entry (omega (arith, length-marks m (demandIn b sizes) (supplyIn g sizes)))) room
-
-            start-mark : getD exit (q .demand .state * u .states + q .supply .state) 0 ≡ mark (modeOf mode) (demandOf s q) (supplyOf s q) (q .demand .state) (q .supply .state)
-            start-mark =
-                let width : u .states ≡ supplyOf s q .n = ap (λ (x : Entry). x .states) f in
-                ap₂ (λ (l : List ℕ) (n : ℕ). getD l (q .demand .state * n + q .supply .state) 0)
-                written width
-                ∙ marked-entry (modeOf mode) (demandOf s q) (supplyOf s q) entry (q .demand .state) (q .supply .state) (asked-demand s q a .state) (asked-supply s q a .state)
-
-            pub carried-out :
-                (carriedOut (one (eqb (getD exit (q .demand .state * u .states + q .supply .state) 0) 0) ∷ sum .kept ∷ sum .rounds ∷ []) ≡ decideAnswer s q mode (length entry))
-                × (exit ≡ decideSlice s q mode entry)
-            unfolding decideAnswer decideSlice
-            carried-out = (
-              rw (none-fault (length entry) room, start-mark, told, same, demand-is, supply-is) refl,
-              rw (none-fault (length entry) room) written,
-            )
+        pub carried-out : {p : Pair} {v : ℕ} → demandOf s q .n * supplyOf s q .n ≤ length entry → p ≡ pairOf q → v ≡ markAt (statesIn supply) exit (p .demand) (p .supply)
+            → (sum : Summary) → sum ≡ summaryOf m (machineIn demand) (machineIn supply)
+            → (carriedOut (one (eqb v 0) ∷ sum .kept ∷ sum .rounds ∷ []) ≡ decideAnswer s q mode (length entry)) × (exit ≡ decideSlice s q mode entry)
+        unfolding decideAnswer decideSlice
+        carried-out room e f sum told = (
+          rw (none-fault (length entry) room, start-mark e f, told, same, x .demand-is, x .supply-is) refl,
+          rw (none-fault (length entry) room) marks-written,
+        )

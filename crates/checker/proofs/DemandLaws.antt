@@ -25,13 +25,13 @@ use Rattle.rules.proofs.RunLaws.{kept-free}
 use Rattle.tables.specs.declared.Checked.{Checked}
 use Rattle.tables.specs.declared.Checked.the-variants.{Passed, Fault}
 use Rattle.tables.specs.Answers.{Answer, answer, carriedOut}
-use Rattle.marks.specs.Rounds.{HasMarks}
+use Rattle.marks.specs.Responses.{HasMarks}
 use Rattle.checker.specs.declared.Question.{Question}
 use Rattle.checker.specs.declared.Decided.{Decided}
-use Rattle.checker.specs.Answers.{decided, sliceAfter}
+use Rattle.checker.specs.Calls.{decided, sliceAfter}
 use Rattle.checker.specs.Pairs.{PairAccepted, demandOf, supplyOf}
 use Rattle.checker.specs.Decide.{modeOf, decideChecks, decideAnswer, decideSlice}
-use Rattle.checker.specs.Demands.{KeptIn, MarksDemand, SecondDemand, ThirdDemand, ThirdDemandAll}
+use Rattle.checker.specs.Demands.{KeptIn, MarksDemand, SecondDemand, ThirdDemand, ThirdDemandAll, DecideDemands}
 use Rattle.checker.proofs.PairLaws.{asked-demand, asked-supply, table-at-sound}
 use Rattle.checker.proofs.DecideLaws.{has-marks, decide-asked}
 
@@ -217,18 +217,14 @@ module _ (file : List ℕ) (q : Question) (mode : ℕ) (entry exit : List ℕ) (
 -- what Decide ensures, from its answer and the slice
 pub demands : (file : List ℕ) (q : Question) (mode : ℕ) (entry exit : List ℕ) (r : Decided)
     → (decided r ≡ decideAnswer file q mode (length entry)) × (exit ≡ decideSlice file q mode entry)
-    → (decided r ≡ decideAnswer file q mode (length entry)) × ((exit ≡ decideSlice file q mode entry)
-    × (((verdict kept rounds : ℕ) → decided r ≡ carriedOut (verdict ∷ kept ∷ rounds ∷ [])
-    → SecondDemand (modeOf mode) (demandOf file q) (supplyOf file q) (q .demand .state) (q .supply .state) verdict rounds exit)
-    × ((verdict kept rounds : ℕ) → decided r ≡ carriedOut (verdict ∷ kept ∷ rounds ∷ [])
-    → ThirdDemand (modeOf mode) (demandOf file q) (supplyOf file q) (q .demand .state) (q .supply .state) verdict kept exit)))
+    → (decided r ≡ decideAnswer file q mode (length entry)) × ((exit ≡ decideSlice file q mode entry) × DecideDemands file q mode (decided r) exit)
 demands file q mode entry exit r (told, left) = (
   told,
   (
     left,
-    (
-      λ v k n e. second-demand file q mode entry exit left v k n (sym told ∙ e),
-      λ v k n e. third-demand file q mode entry exit left v k n (sym told ∙ e),
-    ),
+    record {
+      second = λ v k n e. second-demand file q mode entry exit left v k n (sym told ∙ e);
+      third = λ v k n e. third-demand file q mode entry exit left v k n (sym told ∙ e);
+    },
   ),
 )

@@ -13,12 +13,11 @@ use lib.Seq.{take-append-seam}
 use borrow.Author.Tests.{lt-ltb, le-ltb, ltb-false}
 use Rattle.rules.specs.declared.Row.{Row}
 use Rattle.rules.specs.Slices.{overwrite}
-use Rattle.rules.specs.Machines.{Table, Machine, Sound, machine}
+use Rattle.rules.specs.Machines.{Table, Machine, Sound, machine, widen}
 use Rattle.rules.specs.Actions.{Action, tasks, _∥_}
 use Rattle.rules.specs.Join.{joinState, join, IsJoinRow}
 use Rattle.rules.proofs.MachineLaws.{fin-moves}
 use Rattle.rules.proofs.JoinLaws.{join-rises, join-rows, join-from, join-target, join-parallel}
-use Rattle.tables.specs.declared.reads.Entry.{Entry}
 use Rattle.tables.specs.declared.Refusal.{Refusal}
 use Rattle.tables.specs.declared.Checked.{Checked}
 use Rattle.tables.specs.declared.Checked.the-variants.{Passed, Fault}
@@ -26,22 +25,21 @@ use Rattle.tables.specs.declared.Opened.{Opened}
 use Rattle.tables.specs.declared.Opened.the-variants.{Tables, Refused}
 use Rattle.tables.specs.Checks.{refuse, fault, _then_}
 use Rattle.tables.specs.Answers.{Answer, turnedBack, carriedOut, opened}
-use Rattle.tables.specs.File.{tablesOf, entryOf, bodyLength, bodyBytes}
+use Rattle.tables.specs.File.{tablesOf, bodyBytes}
 use Rattle.tables.specs.Open.{openOf, fileFault}
 use Rattle.tables.specs.Accepted.{TableBody, Accepted}
-use Rattle.tables.specs.Tables.{rowsOf, machineOf}
+use Rattle.tables.specs.Tables.{rowsOf, tableOf, machineOf}
 use Rattle.tables.proofs.CheckLaws.{fault-passed, then-left, then-right}
 use Rattle.tables.proofs.AcceptedLaws.{tables-passed, refused-fault, passed-accepted}
 use Rattle.tables.proofs.RowLaws.{length-bytes, bytes-rows, bytes-body}
-use Rattle.moves.specs.States.{machineIn}
-use Rattle.joins.specs.declared.Sizes.{Sizes}
+use Rattle.machines.specs.Memory.{statesIn, machineIn, InMemory}
 use Rattle.joins.specs.declared.Written.{Written}
 use Rattle.joins.specs.declared.Written.the-variants.{Count, TooMany, NoRoom}
 use Rattle.joins.specs.Joins.{TwoDemands, rowsIn, written, bytesAfter}
 use Rattle.checker.specs.declared.Joined.{Joined}
-use Rattle.checker.specs.Answers.{joined, sliceAfter}
-use Rattle.checker.specs.Join.{joinFault, JoinAccepted, joinOf, joinChecks, joinAnswer, joinSlice, IsJoin}
-use Rattle.checker.proofs.PairLaws.{TableAt, table-at, table-at-sound, first-named, second-named, sorted-body, body-machine, machine-sound}
+use Rattle.checker.specs.Calls.{joined, sliceAfter}
+use Rattle.checker.specs.Join.{joinFault, JoinAccepted, joinOf, joinChecks, joinAnswer, joinSlice, IsJoin, JoinDemands}
+use Rattle.checker.proofs.PairLaws.{TableAt, table-at, table-at-sound, first-named, second-named, loaded-plain}
 use Rattle.checker.proofs.DemandLaws.{passed}
 
 -- ---- what the checks find
@@ -72,7 +70,7 @@ module _ (s : List ℕ) (i j : ℕ) where
 
   module _ (a : JoinAccepted s i j) where
     -- each is in the file, and has a state 0
-    some-state : (x : ℕ) → x < tablesOf s → 0 < entryOf s x .states
+    some-state : (x : ℕ) → x < tablesOf s → 0 < tableOf s x .n
     some-state x l = let t : Accepted s (tablesOf s) = passed-accepted s (a .file) in let some = t .table x l .some-state in omega arith
 
     pub first-at : TableAt s i 0
@@ -83,33 +81,31 @@ module _ (s : List ℕ) (i j : ℕ) where
     unfolding joinFault
     second-at = let l = second-named s (tablesOf s) _ _ (then-left _ _ (a .tables)) in table-at s j 0 (a .file) l (some-state j l)
 
-    pub product-few : entryOf s i .states * entryOf s j .states ≤ 64
+    pub states-few : tableOf s i .n * tableOf s j .n ≤ 64
     unfolding joinFault
-    product-few = ltb-false 64 _ (fault-passed _ _ _ (then-right _ _ (a .tables)))
+    states-few = ltb-false 64 _ (fault-passed _ _ _ (then-right _ _ (a .tables)))
 
-    -- the entries of the two tables, as they are read
-    module _ (d : Entry) (e : d ≡ entryOf s i) (u : Entry) (f : u ≡ entryOf s j) where
-      pub product-is : d .states * u .states ≡ entryOf s i .states * entryOf s j .states
-      product-is = ap₂ (λ (x y : Entry). x .states * y .states) e f
+    -- the machines, as they are loaded
+    module _ (one : List ℕ) (e : machineIn one ≡ widen 0 (machineOf s i)) (two : List ℕ) (f : machineIn two ≡ widen 0 (machineOf s j)) where
+      first-is : machineIn one ≡ machineOf s i
+      first-is = loaded-plain s i one e
 
-      -- the bodies, as they are found
-      module _ (b : List ℕ) (part : b ≡ take (bodyLength d) (drop (d .offset) s)) (g : List ℕ) (piece : g ≡ take (bodyLength u) (drop (u .offset) s)) where
-        abbrev sizes : Sizes
-        sizes = record { first = d .states; second = u .states }
+      second-is : machineIn two ≡ machineOf s j
+      second-is = loaded-plain s j two f
 
-        pub two-demands : TwoDemands b g sizes
-        two-demands = record {
-          first-rows = sorted-body s i 0 first-at d e b part;
-          second-rows = sorted-body s j 0 second-at u f g piece;
-          first-sound = machine-sound s i 0 first-at d e b part;
-          second-sound = machine-sound s j 0 second-at u f g piece;
-          few = let few = product-few in omega (arith, product-is);
-        }
+      -- n and m are what they say of their states
+      pub product-is : {n m : ℕ} → n ≡ statesIn one → m ≡ statesIn two → n * m ≡ tableOf s i .n * tableOf s j .n
+      product-is g h = ap₂ (λ (x y : ℕ). x * y) (g ∙ ap (λ (M : Machine). M .n) first-is) (h ∙ ap (λ (M : Machine). M .n) second-is)
 
-        -- the rows of the bodies are those of the joined table
-        pub rows-found : rowsIn b g sizes ≡ joinOf s i j .rows
-        rows-found =
-            ap₂ (λ (x y : Machine). join x y .rows) (body-machine s i 0 first-at d e b part) (body-machine s j 0 second-at u f g piece)
+      pub product-few : {n m : ℕ} → n ≡ statesIn one → m ≡ statesIn two → n * m ≤ 64
+      product-few g h = rw (product-is g h) states-few
+
+      pub two-demands : InMemory one → InMemory two → TwoDemands one two
+      two-demands x y = record { first-machine = x; second-machine = y; few = product-few refl refl }
+
+      -- their rows are those of the joined table
+      pub rows-found : rowsIn one two ≡ joinOf s i j .rows
+      rows-found = ap₂ (λ (x y : Machine). join x y .rows) first-is second-is
 
     -- ---- what writing comes to
 
@@ -127,12 +123,12 @@ module _ (s : List ℕ) (i j : ℕ) where
     answerOf n TooMany = turnedBack (refuse 17 0)
     answerOf n NoRoom = turnedBack (refuse 14 0)
 
-    module _ (n : ℕ) (product : n ≡ entryOf s i .states * entryOf s j .states) (entry exit : List ℕ) (rows : List Row) (found : rows ≡ joinOf s i j .rows)
+    module _ (n : ℕ) (product : n ≡ tableOf s i .n * tableOf s j .n) (entry exit : List ℕ) (rows : List Row) (found : rows ≡ joinOf s i j .rows)
         (w : Written) (told : w ≡ written rows (length entry)) (left : exit ≡ bytesAfter rows entry) where
-      abbrev Answers : Answer → List ℕ → Type 0
-      Answers x y = (x ≡ joinAnswer s i j (length entry)) × (y ≡ joinSlice s i j entry)
+      abbrev Answered : Answer → List ℕ → Type 0
+      Answered x y = (x ≡ joinAnswer s i j (length entry)) × (y ≡ joinSlice s i j entry)
 
-      all-cases : Answers (answerOf n (written (joinOf s i j .rows) (length entry))) (bytesAfter (joinOf s i j .rows) entry)
+      all-cases : Answered (answerOf n (written (joinOf s i j .rows) (length entry))) (bytesAfter (joinOf s i j .rows) entry)
       unfolding written bytesAfter joinAnswer joinSlice
       all-cases = go (ltb 512 (length list)) (ltb (length entry) (4 * length list)) refl refl
         where
@@ -140,16 +136,16 @@ module _ (s : List ℕ) (i j : ℕ) where
           list = joinOf s i j .rows
 
           go : (many short : Bool) → ltb 512 (length (joinOf s i j .rows)) ≡ many → ltb (length entry) (4 * length (joinOf s i j .rows)) ≡ short
-              → Answers (answerOf n (cond many TooMany (cond short NoRoom (Count (length (joinOf s i j .rows)))))) (cond many entry (cond short entry (overwrite (bodyBytes (joinOf s i j .rows)) entry)))
+              → Answered (answerOf n (cond many TooMany (cond short NoRoom (Count (length (joinOf s i j .rows)))))) (cond many entry (cond short entry (overwrite (bodyBytes (joinOf s i j .rows)) entry)))
           go true short p q = let e = decided-by (length entry) true short p q in (rw e refl, rw e refl)
           go false true p q = let e = decided-by (length entry) false true p q in (rw e refl, rw e refl)
           go false false p q =
               let e = decided-by (length entry) false false p q in
               (rw e (ap (λ (x : ℕ). carriedOut (x ∷ length (joinOf s i j .rows) ∷ [])) product), rw e refl)
 
-      pub write-answers : {v : Written} → w ≡ v → Answers (answerOf n v) exit
+      pub write-answers : {v : Written} → w ≡ v → Answered (answerOf n v) exit
       write-answers e =
-          subst₂ (λ (x : Written) (y : List ℕ). Answers (answerOf n x) y)
+          subst₂ (λ (x : Written) (y : List ℕ). Answered (answerOf n x) y)
           (sym (ap (λ (z : List Row). written z (length entry)) found) ∙ sym told ∙ e)
           (sym (ap (λ (z : List Row). bytesAfter z entry) found) ∙ sym left) all-cases
 
@@ -166,7 +162,7 @@ module _ (s : List ℕ) (i j : ℕ) (entry exit : List ℕ) (left : exit ≡ joi
   abbrev rows : List Row
   rows = joinOf s i j .rows
 
-  outcome : (joinChecks s i j (length entry) ≡ Passed) × (entryOf s i .states * entryOf s j .states ∷ length rows ∷ [] ≡ n ∷ m ∷ [])
+  outcome : (joinChecks s i j (length entry) ≡ Passed) × (tableOf s i .n * tableOf s j .n ∷ length rows ∷ [] ≡ n ∷ m ∷ [])
   unfolding joinAnswer
   outcome = passed (joinChecks s i j (length entry)) _ _ _ told
 
@@ -206,14 +202,11 @@ module _ (s : List ℕ) (i j : ℕ) (entry exit : List ℕ) (left : exit ≡ joi
       let one = digits-lt {q = 0} {m = D .n} {r = 0} {c = E .n} (first-sound .fin) (second-sound .fin) in
       subst (λ (x : List ℕ). TableBody n m x) (sym bytes-are)
       (subst₂ (λ (x y : ℕ). TableBody x y (bodyBytes rows)) (sym n-is) (sym m-is)
-      (bytes-body (D .n * E .n) rows (omega arith) (product-few s i j asked) few-rows (join-from D E) (join-target D E first-sound second-sound) (join-rises D E)))
+      (bytes-body (D .n * E .n) rows (omega arith) (states-few s i j asked) few-rows (join-from D E) (join-target D E first-sound second-sound) (join-rises D E)))
 
-  machine-is : machineIn n (take (4 * m) exit) ≡ machine (join D E)
+  machine-is : machine (record { n = n; rows = rowsOf (take (4 * m) exit) m }) ≡ machine (join D E)
   unfolding join
-  machine-is =
-      let long : length (take (4 * m) exit) ≡ 4 * m = ap length bytes-are ∙ length-bytes rows ∙ ap (λ (x : ℕ). 4 * x) (sym m-is) in
-      let count : length (take (4 * m) exit) / 4 ≡ m = omega arith in
-      ap₂ (λ (x : ℕ) (z : List Row). machine (record { n = x; rows = z })) n-is (ap (rowsOf (take (4 * m) exit)) count ∙ rows-are)
+  machine-is = ap₂ (λ (x : ℕ) (z : List Row). machine (record { n = x; rows = z })) n-is rows-are
 
   pub is-join : IsJoin D E n m exit
   is-join = record {
@@ -228,5 +221,5 @@ module _ (s : List ℕ) (i j : ℕ) (entry exit : List ℕ) (left : exit ≡ joi
 -- of a call, all three
 pub joined-table : (s : List ℕ) (i j : ℕ) (entry exit : List ℕ) (r : Joined)
     → (joined r ≡ joinAnswer s i j (length entry)) × (exit ≡ joinSlice s i j entry)
-    → (joined r ≡ joinAnswer s i j (length entry)) × ((exit ≡ joinSlice s i j entry) × ((n m : ℕ) → joined r ≡ carriedOut (n ∷ m ∷ []) → IsJoin (machineOf s i) (machineOf s j) n m exit))
-joined-table s i j entry exit r (a, l) = (a, (l, λ n m told. is-join s i j entry exit l n m (sym a ∙ told)))
+    → (joined r ≡ joinAnswer s i j (length entry)) × ((exit ≡ joinSlice s i j entry) × JoinDemands s i j (joined r) exit)
+joined-table s i j entry exit r (a, l) = (a, (l, record { table = λ n m told. is-join s i j entry exit l n m (sym a ∙ told) }))

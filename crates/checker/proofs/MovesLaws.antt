@@ -5,30 +5,27 @@ use mathlib.Core.Path.{_≡_, refl, sym, ap, ap₂, _∙_}
 use mathlib.Core.List.{List, [], _∷_, map, flatMap, List·Memᴰ, Memᴰ·cast}
 use mathlib.Core.Logic.{_↔_}
 use native.Mathlib.Omega.{arith}
-use lib.ListN.{length, getD, take, drop}
+use lib.ListN.{length, getD}
 use borrow.Author.Tests.{lt-ltb, le-ltb}
-use Rattle.rules.specs.declared.Move.{Move}
-use Rattle.rules.specs.Machines.{stateMoves}
-use Rattle.rules.specs.Slices.{writeAt, overwrite}
+use Rattle.rules.specs.declared.Pair.{Pair}
+use Rattle.rules.specs.Machines.{Machine}
+use Rattle.rules.specs.Slices.{overwrite}
 use Rattle.rules.specs.Lists.{Pairwise}
 use Rattle.rules.specs.Actions.{Action, beside}
-use Rattle.rules.specs.Moves.{Candidate, Precedes, action, leftOf, consumedOf, unmetOf, survivorsOf, numbers}
+use Rattle.rules.specs.Moves.{Candidate, Precedes, action, leftOf, consumedOf, unmetOf, survivors, numbers}
 use Rattle.rules.proofs.ListLaws.{map-mem, mem-map}
 use Rattle.rules.proofs.MoveLaws.{table-survivors}
 use Rattle.rules.proofs.ActionLaws.{beside-survivors}
-use Rattle.rules.proofs.SliceLaws.{writeAt-overwrite}
-use Rattle.tables.specs.declared.reads.Entry.{Entry}
 use Rattle.tables.specs.declared.Refusal.{Refusal}
 use Rattle.tables.specs.declared.Checked.the-variants.{Passed, Fault}
 use Rattle.tables.specs.Checks.{refuse, fault, _then_}
 use Rattle.tables.specs.Answers.{Answer, turnedBack, carriedOut}
-use Rattle.tables.specs.File.{entryOf, bodyLength}
-use Rattle.tables.specs.Tables.{rowsOf, tableOf}
-use Rattle.moves.proofs.PairLaws.{numbers-length}
+use Rattle.tables.specs.Tables.{tableOf}
+use Rattle.moves.specs.Pairs.{survivorsIn}
 use Rattle.checker.specs.declared.Question.{Question}
-use Rattle.checker.specs.Pairs.{pairChecks, PairAccepted, demandOf, supplyOf, survivorsAt}
+use Rattle.checker.specs.Pairs.{pairChecks, PairAccepted, demandOf, supplyOf, survivorsAt, pairOf, PairLoaded}
 use Rattle.checker.specs.Moves.{movesChecks, movesAnswer, movesSlice, stepNumbers}
-use Rattle.checker.proofs.PairLaws.{asked-checks, asked-demand, asked-supply, state-moves}
+use Rattle.checker.proofs.PairLaws.{asked-checks}
 
 module _ (s : List ℕ) (q : Question) where
   -- by a number before 14
@@ -57,23 +54,16 @@ module _ (s : List ℕ) (q : Question) where
         rw (asked-checks s q a, le-ltb room (5 * length (survivorsAt s q)) long) refl
 
     -- carried out: the count is the answer, and the moves stand before the rest of the slice
-    pub carried-out : (entry exit : List ℕ) → count ≤ length entry / 5 → exit ≡ writeAt 0 (flatMap numbers cs) entry
+    pub carried-out : (entry exit : List ℕ) → count ≤ length entry / 5 → exit ≡ overwrite (flatMap numbers cs) entry
         → (carriedOut (count ∷ []) ≡ movesAnswer s q (length entry)) × (exit ≡ movesSlice s q entry)
     unfolding movesAnswer movesSlice
-    carried-out entry exit l w =
-        let room : length (flatMap numbers cs) ≤ length entry = omega (arith, numbers-length cs) in
-        (rw (none-fault (length entry) l, counted, same) refl, rw (none-fault (length entry) l, ← same) (w ∙ writeAt-overwrite (flatMap numbers cs) entry room))
+    carried-out entry exit l w = (rw (none-fault (length entry) l, counted, same) refl, rw (none-fault (length entry) l, ← same) w)
 
--- the survivors of the moves that the two bodies give are those of the pair
-pub survivors-found : (s : List ℕ) (q : Question) → PairAccepted s q
-    → (d : Entry) → d ≡ entryOf s (q .demand .table) → (b : List ℕ) → b ≡ take (bodyLength d) (drop (d .offset) s)
-    → (u : Entry) → u ≡ entryOf s (q .supply .table) → (g : List ℕ) → g ≡ take (bodyLength u) (drop (u .offset) s)
-    → (ts ss : List Move) → ts ≡ stateMoves (rowsOf b (length b / 4)) (q .demand .state) → ss ≡ stateMoves (rowsOf g (length g / 4)) (q .supply .state)
-    → survivorsOf ts ss ≡ survivorsAt s q
-survivors-found s q a d e b part u f g piece ts ss p r =
-    ap₂ survivorsOf
-    (state-moves s (q .demand .table) (q .demand .state) (asked-demand s q a) d e b part ts p)
-    (state-moves s (q .supply .table) (q .supply .state) (asked-supply s q a) u f g piece ss r)
+-- the survivors of the pair, by the two machines
+pub survivors-found : (s : List ℕ) (q : Question) (demand supply : List ℕ) → PairLoaded s q demand supply → (p : Pair) → p ≡ pairOf q
+    → survivorsIn demand supply p ≡ survivorsAt s q
+survivors-found s q demand supply x p e =
+    ap (survivorsIn demand supply) e ∙ ap₂ (λ (D S : Machine). survivors D S (q .demand .state) (q .supply .state)) (x .demand-is) (x .supply-is)
 
 -- ---- the moves written are those of PADS
 

@@ -1,35 +1,33 @@
--- Laws of questions about a pair: what turns them back, and what the two bodies hold where nothing does. Relies on what Open guarantees.
-use Prim.Native.Nat.{ℕ, _+_, _*_, _/_, _≤_, _<_}
-use mathlib.Core.Path.{_≡_, sym, ap, ap₂, _∙_, subst}
-use mathlib.Core.Bool.{Bool, false}
+-- Laws of questions about a pair: what turns them back, and the two machines where nothing does. Relies on what Open guarantees.
+use Prim.Native.Nat.{ℕ, _+_, _*_, _≤_, _<_}
+use mathlib.Core.Path.{_≡_, sym, ap, ap₂, _∙_}
 use mathlib.Core.List.{List}
 use native.Mathlib.Omega.{arith}
-use lib.ListN.{length, take, drop}
+use lib.ListN.{length}
 use borrow.Author.Tests.{leb-false}
-use Rattle.rules.specs.declared.Move.{Move}
-use Rattle.rules.specs.declared.Row.{Row}
-use Rattle.rules.specs.Machines.{Machine, Sound, stateMoves, machine}
-use Rattle.tables.specs.declared.reads.Entry.{Entry}
+use Rattle.rules.specs.Machines.{Machine, Sound, widen}
+use Rattle.rules.proofs.MachineLaws.{widen-none}
 use Rattle.tables.specs.declared.Refusal.{Refusal}
 use Rattle.tables.specs.declared.Checked.{Checked}
 use Rattle.tables.specs.declared.Checked.the-variants.{Passed, Fault}
 use Rattle.tables.specs.declared.Opened.{Opened}
 use Rattle.tables.specs.declared.Opened.the-variants.{Tables, Refused}
-use Rattle.tables.specs.Checks.{fault, _then_}
+use Rattle.tables.specs.Checks.{_then_}
 use Rattle.tables.specs.Answers.{opened}
 use Rattle.tables.specs.File.{tablesOf, entryOf, bodyLength, bodyOf}
 use Rattle.tables.specs.Open.{openOf, fileFault}
 use Rattle.tables.specs.Accepted.{TableBody, Accepted}
-use Rattle.tables.specs.Tables.{rowsOf, machineOf}
+use Rattle.tables.specs.Tables.{tableOf, machineOf}
 use Rattle.tables.proofs.CheckLaws.{fault-passed, then-left, then-right}
 use Rattle.tables.proofs.AcceptedLaws.{tables-passed, refused-fault, passed-accepted, accepted-laid}
 use Rattle.tables.proofs.TableLaws.{body-sound}
-use Rattle.moves.specs.States.{Sorted, machineIn}
-use Rattle.moves.proofs.StateLaws.{body-sorted}
+use Rattle.machines.specs.Memory.{statesIn, machineIn, InMemory}
+use Rattle.machines.specs.Load.{LoadsTable}
+use Rattle.marks.proofs.RoundLaws.{few-pairs}
 use Rattle.checker.specs.declared.Question.{Question}
 use Rattle.checker.specs.declared.named.Named.{Named}
 use Rattle.checker.specs.Named.{namedFault}
-use Rattle.checker.specs.Pairs.{pairFault, pairChecks, PairAccepted}
+use Rattle.checker.specs.Pairs.{pairFault, pairChecks, PairAccepted, demandOf, supplyOf, PairLoaded}
 
 -- ---- what the checks find
 
@@ -61,9 +59,9 @@ asked-checks s q a = rw (a .file) (a .pair)
 pub record TableAt (s : List ℕ) (i q : ℕ) : Type 0 where
   pub within : entryOf s i .offset + bodyLength (entryOf s i) ≤ length s
   pub table : TableBody (entryOf s i .states) (entryOf s i .rows) (bodyOf s i)
-  pub state : q < entryOf s i .states
+  pub state : q < tableOf s i .n
 
-pub table-at : (s : List ℕ) (i q : ℕ) → fileFault s ≡ Passed → i < tablesOf s → q < entryOf s i .states → TableAt s i q
+pub table-at : (s : List ℕ) (i q : ℕ) → fileFault s ≡ Passed → i < tablesOf s → q < tableOf s i .n → TableAt s i q
 table-at s i q p l h =
     let a : Accepted s (tablesOf s) = passed-accepted s p in
     record { within = accepted-laid s (tablesOf s) a .within i l; table = a .table i l; state = h }
@@ -94,39 +92,31 @@ module _ (s : List ℕ) (q : Question) (a : PairAccepted s q) where
       table-at s (q .supply .table) (q .supply .state) (a .file) (second-named s (tablesOf s) _ _ (then-left _ _ (a .pair)))
       (leb-false _ _ (fault-passed _ _ _ (then-right _ _ (then-right _ _ (a .pair)))))
 
--- ---- its entry and its body
+-- ---- its machine, loaded
 
-module _ (s : List ℕ) (i q : ℕ) (t : TableAt s i q) (e : Entry) (read : e ≡ entryOf s i) where
-  pub body-within : e .offset + bodyLength e ≤ length s
-  body-within = subst (λ (x : Entry). x .offset + bodyLength x ≤ length s) (sym read) (t .within)
-
-  pub states-few : e .states ≤ 64
-  states-few = subst (λ (x : Entry). x .states ≤ 64) (sym read) (t .table .few-states)
-
-  pub state-below : q < e .states
-  state-below = subst (λ (x : Entry). q < x .states) (sym read) (t .state)
-
+module _ (s : List ℕ) (i q : ℕ) (t : TableAt s i q) where
   pub state-narrow : q < 256
-  state-narrow = let h : q < entryOf s i .states = t .state in let few : entryOf s i .states ≤ 64 = t .table .few-states in omega arith
+  state-narrow = let state = t .state in let few = t .table .few-states in omega arith
 
-  module _ (body : List ℕ) (part : body ≡ take (bodyLength e) (drop (e .offset) s)) where
-    body-is : body ≡ bodyOf s i
-    unfolding bodyOf
-    body-is = part ∙ ap (λ (x : Entry). take (bodyLength x) (drop (x .offset) s)) read
+  pub table-loads : (out : List ℕ) → 579 ≤ length out → LoadsTable s i out
+  table-loads out room = record { table = t .table; within = t .within; room = room }
 
-    pub sorted-body : Sorted body
-    sorted-body = subst Sorted (sym body-is) (body-sorted (entryOf s i .states) (entryOf s i .rows) (bodyOf s i) (t .table))
+-- with no standing set it is the table's
+pub loaded-plain : (s : List ℕ) (i : ℕ) (l : List ℕ) → machineIn l ≡ widen 0 (machineOf s i) → machineIn l ≡ machineOf s i
+loaded-plain s i l e = e ∙ widen-none (machineOf s i)
 
-    -- its machine is the table's
-    pub body-machine : machineIn (e .states) body ≡ machineOf s i
-    body-machine =
-        let long : length body ≡ 4 * entryOf s i .rows = ap length body-is ∙ t .table .four-bytes in
-        let count : length body / 4 ≡ entryOf s i .rows = omega arith in
-        let states : e .states ≡ entryOf s i .states = ap (λ (x : Entry). x .states) read in
-        ap₂ (λ (n : ℕ) (r : List Row). machine (record { n = n; rows = r })) states (ap₂ rowsOf body-is count)
+pub pair-loaded : (s : List ℕ) (q : Question) (demand supply : List ℕ) → machineIn demand ≡ widen 0 (demandOf s q) → InMemory demand
+    → machineIn supply ≡ widen 0 (supplyOf s q) → InMemory supply → PairLoaded s q demand supply
+pair-loaded s q demand supply e x f y = record {
+  machines = record { demand-machine = x; supply-machine = y };
+  demand-is = loaded-plain s (q .demand .table) demand e;
+  supply-is = loaded-plain s (q .supply .table) supply f;
+}
 
-    pub state-moves : (ms : List Move) → ms ≡ stateMoves (rowsOf body (length body / 4)) q → ms ≡ machineOf s i .moves q
-    state-moves ms h = h ∙ ap (λ (m : Machine). m .moves q) body-machine
+-- m and n are what the two machines say of their states
+module _ {s : List ℕ} {q : Question} {demand supply : List ℕ} (x : PairLoaded s q demand supply) {m n : ℕ} (e : m ≡ statesIn demand) (f : n ≡ statesIn supply) where
+  pub pairs-are : m * n ≡ demandOf s q .n * supplyOf s q .n
+  pairs-are = ap₂ (λ (y z : ℕ). y * z) (e ∙ ap (λ (M : Machine). M .n) (x .demand-is)) (f ∙ ap (λ (M : Machine). M .n) (x .supply-is))
 
-    pub machine-sound : Sound (machineIn (e .states) body)
-    machine-sound = subst Sound (sym body-machine) (table-at-sound s i q t)
+  pub pairs-few : m * n ≤ 4096
+  pairs-few = few-pairs m n (rw e (x .machines .demand-machine .few-states)) (rw f (x .machines .supply-machine .few-states))

@@ -7,32 +7,31 @@ use lib.ListN.{length, getD, take, drop}
 use lib.Seq.{take-at}
 use borrow.Author.Tests.{lt-ltb, le-ltb}
 use Rattle.rules.specs.declared.Mode.{Mode}
+use Rattle.rules.specs.declared.Pair.{Pair}
 use Rattle.rules.specs.Slices.{overwrite}
 use Rattle.rules.specs.Machines.{Machine}
 use Rattle.rules.specs.Rounds.{mark, marks}
 use Rattle.rules.specs.Steps.{IsRun, slots, steps}
 use Rattle.rules.proofs.MachineLaws.{moves-rise}
 use Rattle.rules.proofs.StepLaws.{run-is, run-length, run-blocked, length-steps}
-use Rattle.tables.specs.declared.reads.Entry.{Entry}
 use Rattle.tables.specs.declared.Refusal.{Refusal}
 use Rattle.tables.specs.declared.Checked.{Checked}
 use Rattle.tables.specs.declared.Checked.the-variants.{Passed, Fault}
 use Rattle.tables.specs.Checks.{refuse, fault, _then_}
 use Rattle.tables.specs.Answers.{turnedBack, carriedOut}
-use Rattle.tables.specs.File.{entryOf, bodyLength}
 use Rattle.tables.specs.Tables.{tableOf}
 use Rattle.tables.proofs.CheckLaws.{then-left}
-use Rattle.marks.specs.declared.Sizes.{Sizes}
-use Rattle.marks.specs.Rounds.{demandIn, supplyIn, marksIn}
+use Rattle.machines.specs.Memory.{machineIn}
+use Rattle.runs.specs.Walks.{Starts, markFrom, stepsFrom}
 use Rattle.checker.specs.declared.Question.{Question}
 use Rattle.checker.specs.declared.Counted.{Counted}
-use Rattle.checker.specs.Answers.{counted, sliceAfter}
-use Rattle.checker.specs.Pairs.{PairAccepted, demandOf, supplyOf}
+use Rattle.checker.specs.Calls.{counted, sliceAfter}
+use Rattle.checker.specs.Pairs.{PairAccepted, demandOf, supplyOf, pairOf, PairLoaded}
 use Rattle.checker.specs.Decide.{modeOf, decideChecks}
 use Rattle.checker.specs.Run.{runChecks, runAnswer, runMarks, runSteps}
-use Rattle.checker.specs.Demands.{RunDemand}
-use Rattle.checker.proofs.PairLaws.{asked-demand, asked-supply, table-at-sound}
-use Rattle.checker.proofs.DecideLaws.{has-marks, decide-asked, pairs-are, none-fault, demand-is, supply-is}
+use Rattle.checker.specs.Demands.{RunDemand, RunDemands}
+use Rattle.checker.proofs.PairLaws.{asked-demand, asked-supply, table-at-sound, pairs-are}
+use Rattle.checker.proofs.DecideLaws.{has-marks, decide-asked, none-fault}
 use Rattle.checker.proofs.DemandLaws.{marks-demand, passed}
 
 module _ (s : List ℕ) (q : Question) (mode : ℕ) where
@@ -47,41 +46,41 @@ module _ (s : List ℕ) (q : Question) (mode : ℕ) where
   unfolding runAnswer runMarks runSteps
   run-turned-back r first second e = (rw e refl, (rw e refl, rw e refl))
 
-  module _ (a : PairAccepted s q) (known : mode ≤ 1) (d : Entry) (e : d ≡ entryOf s (q .demand .table)) (u : Entry) (f : u ≡ entryOf s (q .supply .table))
-      (room : ℕ) (long : d .states * u .states ≤ room) where
-    pub steps-fault : (more : ℕ) → more < 2 * (d .states * u .states) → runChecks s q mode room more ≡ Fault (refuse 14 0)
+  module _ (a : PairAccepted s q) (known : mode ≤ 1) (room : ℕ) (long : demandOf s q .n * supplyOf s q .n ≤ room) where
+    pub steps-fault : (more : ℕ) → more < 2 * (demandOf s q .n * supplyOf s q .n) → runChecks s q mode room more ≡ Fault (refuse 14 0)
     unfolding runChecks _then_ fault
-    steps-fault more l =
-        let short : more < 2 * (demandOf s q .n * supplyOf s q .n) = omega (arith, pairs-are s q mode a known d e u f) in
-        rw (none-fault s q mode a known d e u f room long, lt-ltb more (2 * (demandOf s q .n * supplyOf s q .n)) short) refl
+    steps-fault more l = rw (none-fault s q mode a known room long, lt-ltb more (2 * (demandOf s q .n * supplyOf s q .n)) l) refl
 
-    pub no-fault : (more : ℕ) → 2 * (d .states * u .states) ≤ more → runChecks s q mode room more ≡ Passed
+    pub no-fault : (more : ℕ) → 2 * (demandOf s q .n * supplyOf s q .n) ≤ more → runChecks s q mode room more ≡ Passed
     unfolding runChecks _then_ fault
-    no-fault more l =
-        let enough : 2 * (demandOf s q .n * supplyOf s q .n) ≤ more = omega (arith, pairs-are s q mode a known d e u f) in
-        rw (none-fault s q mode a known d e u f room long, le-ltb more (2 * (demandOf s q .n * supplyOf s q .n)) enough) refl
+    no-fault more l = rw (none-fault s q mode a known room long, le-ltb more (2 * (demandOf s q .n * supplyOf s q .n)) l) refl
 
 -- ---- carried out
 
-module _ (s : List ℕ) (q : Question) (mode : ℕ) (a : PairAccepted s q) (known : mode ≤ 1) (d : Entry) (e : d ≡ entryOf s (q .demand .table)) (u : Entry) (f : u ≡ entryOf s (q .supply .table))
-    (b : List ℕ) (part : b ≡ take (bodyLength d) (drop (d .offset) s)) (g : List ℕ) (piece : g ≡ take (bodyLength u) (drop (u .offset) s))
-    (m : Mode) (same : m ≡ modeOf mode) where
-  abbrev n : Sizes
-  n = record { demand = d .states; supply = u .states }
+module _ (s : List ℕ) (q : Question) (mode : ℕ) (a : PairAccepted s q) (known : mode ≤ 1) {demand supply : List ℕ} (x : PairLoaded s q demand supply) (m : Mode)
+    (same : m ≡ modeOf mode) {p : Pair} (start : p ≡ pairOf q) where
+  -- the run starts from the pair, with the marks that were written
+  pub run-starts : (first : List ℕ) {marked second : List ℕ} → marked ≡ overwrite (marks m (machineIn demand) (machineIn supply)) first
+      → 2 * (demandOf s q .n * supplyOf s q .n) ≤ length second → Starts demand supply m p marked second
+  run-starts first {marked} {second} left room = record {
+    machines = x .machines;
+    marks = has-marks m (machineIn demand) (machineIn supply) first left;
+    demand-state = rw (start, ap (λ (M : Machine). M .n) (x .demand-is)) (asked-demand s q a .state);
+    supply-state = rw (start, ap (λ (M : Machine). M .n) (x .supply-is)) (asked-supply s q a .state);
+    room = rw (pairs-are x refl refl) room;
+  }
 
-  pub run-carried-out : (first second : List ℕ) → d .states * u .states ≤ length first → 2 * (d .states * u .states) ≤ length second
+  pub run-carried-out : (first second : List ℕ) → demandOf s q .n * supplyOf s q .n ≤ length first → 2 * (demandOf s q .n * supplyOf s q .n) ≤ length second
       → {count : ℕ} {marked stepped : List ℕ}
-      → marked ≡ overwrite (marksIn m b g n) first
-      → count ≡ mark m (demandIn b n) (supplyIn g n) (q .demand .state) (q .supply .state)
-      → stepped ≡ overwrite (steps m (demandIn b n) (supplyIn g n) (q .demand .state) (q .supply .state)) second
+      → marked ≡ overwrite (marks m (machineIn demand) (machineIn supply)) first
+      → count ≡ markFrom m demand supply p
+      → stepped ≡ overwrite (stepsFrom m demand supply p) second
       → (carriedOut (count ∷ []) ≡ runAnswer s q mode (length first) (length second)) × ((marked ≡ runMarks s q mode first (length second)) × (stepped ≡ runSteps s q mode (length first) second))
   unfolding runAnswer runMarks runSteps
-  run-carried-out first second long room x y z =
-      let none = no-fault s q mode a known d e u f (length first) long (length second) room in
-      let D-is = demand-is s q mode a known d e u f b part g piece in
-      let S-is = supply-is s q mode a known d e u f b part g piece in (
-        rw none (ap (λ (n : ℕ). carriedOut (n ∷ [])) (y ∙ rw (same, D-is, S-is) refl)),
-        (rw none (x ∙ rw (same, D-is, S-is) refl), rw none (z ∙ rw (same, D-is, S-is) refl)),
+  run-carried-out first second long room u v w =
+      let none = no-fault s q mode a known (length first) long (length second) room in (
+        rw none (ap (λ (n : ℕ). carriedOut (n ∷ [])) (v ∙ rw (same, start, x .demand-is, x .supply-is) refl)),
+        (rw none (u ∙ rw (same, x .demand-is, x .supply-is) refl), rw none (w ∙ rw (same, start, x .demand-is, x .supply-is) refl)),
       )
 
 -- ---- the run that is shown
@@ -146,5 +145,6 @@ module _ (file : List ℕ) (q : Question) (mode : ℕ) (first second : List ℕ)
 pub run-shown : (file : List ℕ) (q : Question) (mode : ℕ) (first second : List ℕ) {marked stepped : List ℕ} (r : Counted)
     → (counted r ≡ runAnswer file q mode (length first) (length second)) × ((marked ≡ runMarks file q mode first (length second)) × (stepped ≡ runSteps file q mode (length first) second))
     → (counted r ≡ runAnswer file q mode (length first) (length second)) × ((marked ≡ runMarks file q mode first (length second)) × ((stepped ≡ runSteps file q mode (length first) second)
-    × ((count : ℕ) → counted r ≡ carriedOut (count ∷ []) → RunDemand (modeOf mode) (demandOf file q) (supplyOf file q) (q .demand .state) (q .supply .state) count marked stepped)))
-run-shown file q mode first second r (told, (left, gone)) = (told, (left, (gone, λ count e. run-demand file q mode first second left gone count (sym told ∙ e))))
+    × RunDemands file q mode (counted r) marked stepped))
+run-shown file q mode first second r (told, (left, gone)) =
+    (told, (left, (gone, record { second = λ count e. run-demand file q mode first second left gone count (sym told ∙ e) })))

@@ -15,7 +15,7 @@ use Rattle.tables.specs.Answers.{Answer, answer}
 use Rattle.tables.specs.File.{tablesOf}
 use Rattle.tables.specs.Open.{fileFault}
 use Rattle.checker.specs.declared.Question.{Question}
-use Rattle.checker.specs.Answers.{sliceAfter}
+use Rattle.checker.specs.Calls.{sliceAfter}
 use Rattle.checker.specs.Pairs.{pairFault, demandOf, supplyOf}
 
 -- "a mode, 0 full or 1 partial"; another number is turned back, and what it gives here means nothing

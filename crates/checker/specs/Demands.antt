@@ -4,7 +4,7 @@
 use Prim.Native.Nat.{ℕ, suc, _*_, _≤_, _<_}
 use mathlib.Core.Path.{_≡_}
 use mathlib.Core.Bool.{Bool, not}
-use mathlib.Core.List.{List, flatMap}
+use mathlib.Core.List.{List, [], _∷_, flatMap}
 use mathlib.Core.Logic.{_↔_}
 use lib.Dec.{T, eqb}
 use lib.ListN.{length, take}
@@ -17,6 +17,10 @@ use Rattle.rules.specs.Relations.{Pairs, Passing, Meets}
 use Rattle.rules.specs.Rounds.{Kept, markAt, countPairs}
 use Rattle.rules.specs.Runs.{Free}
 use Rattle.rules.specs.Steps.{IsRun, EndsBlocked, stepRows}
+use Rattle.tables.specs.Answers.{Answer, carriedOut}
+use Rattle.checker.specs.declared.Question.{Question}
+use Rattle.checker.specs.Pairs.{demandOf, supplyOf}
+use Rattle.checker.specs.Decide.{modeOf}
 
 -- "Marked 0 means kept; the kept set of a carried-out call that writes marks is the pairs of states whose mark it wrote as 0."
 abbrev pub KeptIn : Machine → Machine → List ℕ → Pairs
@@ -73,3 +77,17 @@ pub record RunDemand (mode : Mode) (D S : Machine) (t s count : ℕ) (marks step
   pub is-run : IsRun mode D S t s slots
   -- and leads by surviving moves to a blocked pair
   pub blocked : (count ≡ 0 → ⊥) → EndsBlocked D S t s slots
+
+-- ---- of the calls
+
+-- what a call of Decide that is carried out promises, of its answer and of the slice at exit
+pub record DecideDemands (s : List ℕ) (q : Question) (mode : ℕ) (a : Answer) (slice : List ℕ) : Type 0 where
+  pub second : (verdict kept rounds : ℕ) → a ≡ carriedOut (verdict ∷ kept ∷ rounds ∷ [])
+      → SecondDemand (modeOf mode) (demandOf s q) (supplyOf s q) (q .demand .state) (q .supply .state) verdict rounds slice
+  pub third : (verdict kept rounds : ℕ) → a ≡ carriedOut (verdict ∷ kept ∷ rounds ∷ [])
+      → ThirdDemand (modeOf mode) (demandOf s q) (supplyOf s q) (q .demand .state) (q .supply .state) verdict kept slice
+
+-- what a call of Run that is carried out promises, of its answer and of the slices at exit
+pub record RunDemands (s : List ℕ) (q : Question) (mode : ℕ) (a : Answer) (marks steps : List ℕ) : Type 0 where
+  pub second : (count : ℕ) → a ≡ carriedOut (count ∷ [])
+      → RunDemand (modeOf mode) (demandOf s q) (supplyOf s q) (q .demand .state) (q .supply .state) count marks steps

@@ -7,19 +7,18 @@ use lib.Dec.{ltb}
 use lib.ListN.{length, take}
 use Rattle.rules.specs.declared.Row.{Row}
 use Rattle.rules.specs.Slices.{overwrite}
-use Rattle.rules.specs.Machines.{Table, Machine}
+use Rattle.rules.specs.Machines.{Table, Machine, machine}
 use Rattle.rules.specs.Actions.{Action, tasks, _∥_}
 use Rattle.rules.specs.Join.{joinState, join, IsJoinRow}
 use Rattle.tables.specs.declared.Checked.{Checked}
 use Rattle.tables.specs.declared.Checked.the-variants.{Passed}
 use Rattle.tables.specs.Checks.{fault, _then_}
-use Rattle.tables.specs.Answers.{Answer, answer}
-use Rattle.tables.specs.File.{tablesOf, entryOf, bodyBytes}
+use Rattle.tables.specs.Answers.{Answer, answer, carriedOut}
+use Rattle.tables.specs.File.{tablesOf, bodyBytes}
 use Rattle.tables.specs.Open.{fileFault}
 use Rattle.tables.specs.Accepted.{TableBody}
-use Rattle.tables.specs.Tables.{rowsOf, machineOf}
-use Rattle.moves.specs.States.{machineIn}
-use Rattle.checker.specs.Answers.{sliceAfter}
+use Rattle.tables.specs.Tables.{rowsOf, tableOf, machineOf}
+use Rattle.checker.specs.Calls.{sliceAfter}
 use Rattle.checker.specs.Named.{namedFault, asDemand}
 
 -- "Two demand tables, perhaps the same one. After Open's: 11, 12, first then second; 16 if the product of the two n is above 64", in a file of
@@ -27,7 +26,7 @@ use Rattle.checker.specs.Named.{namedFault, asDemand}
 unfoldable pub joinFault : List ℕ → ℕ → ℕ → ℕ → Checked
 joinFault s k i j =
     namedFault s k (asDemand i) (asDemand j)
-    then fault (ltb 64 (entryOf s i .states * entryOf s j .states)) 16 0
+    then fault (ltb 64 (tableOf s i .n * tableOf s j .n)) 16 0
 
 -- none of these numbers applies
 pub record JoinAccepted (s : List ℕ) (i j : ℕ) : Type 0 where
@@ -48,7 +47,7 @@ joinChecks s i j room =
 
 -- "n and m are returned"
 unfoldable pub joinAnswer : List ℕ → ℕ → ℕ → ℕ → Answer
-joinAnswer s i j room = answer (joinChecks s i j room) (entryOf s i .states * entryOf s j .states ∷ length (joinOf s i j .rows) ∷ [])
+joinAnswer s i j room = answer (joinChecks s i j room) (tableOf s i .n * tableOf s j .n ∷ length (joinOf s i j .rows) ∷ [])
 
 -- "Rows are written in body form, rising"; "later bytes unchanged"
 unfoldable pub joinSlice : List ℕ → ℕ → ℕ → List ℕ → List ℕ
@@ -62,4 +61,8 @@ pub record IsJoin (D E : Machine) (n m : ℕ) (bytes : List ℕ) : Type 0 where
   pub body : TableBody n m (take (4 * m) bytes)
   pub rows : (r : Row) → List·Memᴰ r (rowsOf (take (4 * m) bytes) m) ↔ IsJoinRow D E r
   pub parallel : (a b u v : ℕ) (x : Action) → a < D .n → b < E .n → v < E .n
-      → (tasks D ∥ tasks E) .Step (a, b) x (u, v) ↔ tasks (machineIn n (take (4 * m) bytes)) .Step (joinState (E .n) a b) x (joinState (E .n) u v)
+      → (tasks D ∥ tasks E) .Step (a, b) x (u, v) ↔ tasks (machine (record { n = n; rows = rowsOf (take (4 * m) bytes) m })) .Step (joinState (E .n) a b) x (joinState (E .n) u v)
+
+-- what a call of Join that is carried out promises, of its answer and of the lent bytes at exit
+pub record JoinDemands (s : List ℕ) (i j : ℕ) (a : Answer) (bytes : List ℕ) : Type 0 where
+  pub table : (n m : ℕ) → a ≡ carriedOut (n ∷ m ∷ []) → IsJoin (machineOf s i) (machineOf s j) n m bytes

@@ -1,4 +1,4 @@
-pub mod Answers
+pub mod Calls
 pub mod Named
 pub mod Pairs
 pub mod Moves

@@ -3,14 +3,16 @@ use Prim.Native.Nat.{ℕ}
 use mathlib.Core.Path.{_≡_}
 use mathlib.Core.List.{List}
 use lib.Dec.{leb}
+use Rattle.rules.specs.declared.Pair.{Pair}
 use Rattle.rules.specs.Machines.{Machine}
 use Rattle.rules.specs.Moves.{Candidate, survivors}
 use Rattle.tables.specs.declared.Checked.{Checked}
 use Rattle.tables.specs.declared.Checked.the-variants.{Passed}
 use Rattle.tables.specs.Checks.{fault, _then_}
-use Rattle.tables.specs.File.{tablesOf, entryOf}
+use Rattle.tables.specs.File.{tablesOf}
 use Rattle.tables.specs.Open.{fileFault}
-use Rattle.tables.specs.Tables.{machineOf}
+use Rattle.tables.specs.Tables.{tableOf, machineOf}
+use Rattle.machines.specs.Memory.{machineIn, TwoMachines}
 use Rattle.checker.specs.declared.Question.{Question}
 use Rattle.checker.specs.Named.{namedFault, asDemand, asSupply}
 
@@ -18,8 +20,8 @@ use Rattle.checker.specs.Named.{namedFault, asDemand, asSupply}
 unfoldable pub pairFault : List ℕ → ℕ → Question → Checked
 pairFault s k q =
     namedFault s k (asDemand (q .demand .table)) (asSupply (q .supply .table))
-    then fault (leb (entryOf s (q .demand .table) .states) (q .demand .state)) 13 0
-    then fault (leb (entryOf s (q .supply .table) .states) (q .supply .state)) 13 0
+    then fault (leb (tableOf s (q .demand .table) .n) (q .demand .state)) 13 0
+    then fault (leb (tableOf s (q .supply .table) .n) (q .supply .state)) 13 0
 
 -- "After Open's"
 unfoldable pub pairChecks : List ℕ → Question → Checked
@@ -39,3 +41,13 @@ supplyOf s q = machineOf s (q .supply .table)
 
 abbrev pub survivorsAt : List ℕ → Question → List Candidate
 survivorsAt s q = survivors (demandOf s q) (supplyOf s q) (q .demand .state) (q .supply .state)
+
+-- the pair that is asked about
+abbrev pub pairOf : Question → Pair
+pairOf q = record { demand = q .demand .state; supply = q .supply .state }
+
+-- the two tables, loaded
+pub record PairLoaded (s : List ℕ) (q : Question) (demand supply : List ℕ) : Type 0 where
+  pub machines : TwoMachines demand supply
+  pub demand-is : machineIn demand ≡ demandOf s q
+  pub supply-is : machineIn supply ≡ supplyOf s q

@@ -10,7 +10,7 @@ use Rattle.tables.specs.declared.Checked.{Checked}
 use Rattle.tables.specs.Checks.{fault, _then_}
 use Rattle.tables.specs.Answers.{Answer, answer}
 use Rattle.checker.specs.declared.Question.{Question}
-use Rattle.checker.specs.Answers.{sliceAfter}
+use Rattle.checker.specs.Calls.{sliceAfter}
 use Rattle.checker.specs.Pairs.{demandOf, supplyOf}
 use Rattle.checker.specs.Decide.{modeOf, decideChecks}
 

@@ -1,19 +1,20 @@
 // The join of two demand tables: what turns it back after opening, and its rows where nothing does.
 ghost use mathlib.Core.Path.{_≡_};
 ghost use lib.ListN.{length};
-ghost use Rattle.checker.specs.Answers.{joined};
+ghost use Rattle.checker.specs.Calls.{joined};
 ghost use Rattle.checker.specs.Join.{joinFault, JoinAccepted, joinAnswer, joinSlice};
 use crate::Joined;
 use crate::TableSize;
 use crate::named::Named;
 use crate::named::check_named;
-use joins::Sizes;
 use joins::Written;
+use machines::Layout;
+use machines::load_table;
+use machines::states;
 use rules::Limits;
 use tables::Checked;
 use tables::Refusal;
-use tables::entry_at;
-use tables::entry_body;
+use tables::states_of;
 
 // What turns back a join before its rows are built, in a file of k tables.
 pub(crate) fn check_join(file: &[u8], k: usize, first: usize, second: usize) -> Checked
@@ -24,7 +25,7 @@ pub(crate) fn check_join(file: &[u8], k: usize, first: usize, second: usize) -> 
     if let Checked::Fault(refusal) = check_named(file, k, a, b) {
         return Checked::Fault(refusal);
     }
-    let states = entry_at(file, first).states as usize * entry_at(file, second).states as usize;
+    let states = states_of(file, first) as usize * states_of(file, second) as usize;
     if Limits::STATES < states {
         return Checked::Fault(Refusal::new(16, 0));
     }
@@ -37,16 +38,17 @@ pub(crate) fn write_join(file: &[u8], first: usize, second: usize, out: &mut [u8
     ensures answer { λ r. ⌜ joined r ≡ joinAnswer (now (file .entry)) first second (length (now (out .entry))) ⌝ }
     ensures slice { λ r. ⌜ now (out .exit) ≡ joinSlice (now (file .entry)) first second (now (out .entry)) ⌝ }
 {
-    let a = entry_at(file, first);
-    let b = entry_at(file, second);
-    let states = a.states as usize * b.states as usize;
-    let sizes = Sizes {
-        first: a.states,
-        second: b.states,
-    };
-    match joins::write(entry_body(file, a), entry_body(file, b), sizes, out) {
+    let mut one = [0u32; Layout::ENTRIES];
+    let mut two = [0u32; Layout::ENTRIES];
+    load_table(file, first, 0, &mut one);
+    load_table(file, second, 0, &mut two);
+    let pairs = states(&one) as usize * states(&two) as usize;
+    match joins::write(&one, &two, out) {
         Written::TooMany => Joined::Refused(Refusal::new(17, 0)),
         Written::NoRoom => Joined::Refused(Refusal::new(14, 0)),
-        Written::Count(rows) => Joined::Table(TableSize { states, rows }),
+        Written::Count(rows) => Joined::Table(TableSize {
+            states: pairs,
+            rows,
+        }),
     }
 }

@@ -1,19 +1,15 @@
-// The calls about a pair of states and about two tables, as document 01 lists them. Each opens the file, turns back what must be turned back, and has the
-// crates below work out the answer. Nothing is asked of the caller. Relies on `rules` for the meaning, on `tables` for the file, on `moves` for the
-// surviving moves of a pair, on `marks` for the marks of all pairs, on `runs` for the run that shows a no and on `joins` for the rows of a join.
-ghost use Prim.Native.Nat.{ℕ};
+// The calls about a pair of states and about two tables, as document 01 lists them. Each opens the file, turns back what must be turned back, loads
+// the two tables, and has an engine work out the answer. Nothing is asked of the caller. Relies on `rules` for the meaning, on `tables` for the
+// file, on `machines` for loading, and on the engines: `moves` for the surviving moves of a pair, `marks` for the marks of all pairs, `runs` for
+// the run that shows a no, `joins` for the rows of a join.
 ghost use mathlib.Core.Path.{_≡_};
-ghost use mathlib.Core.List.{[], _∷_};
 ghost use lib.ListN.{length};
-ghost use Rattle.tables.specs.Answers.{carriedOut};
-ghost use Rattle.tables.specs.Tables.{machineOf};
-ghost use Rattle.checker.specs.Answers.{counted, decided, joined};
-ghost use Rattle.checker.specs.Pairs.{demandOf, supplyOf};
+ghost use Rattle.checker.specs.Calls.{counted, decided, joined};
 ghost use Rattle.checker.specs.Moves.{movesAnswer, movesSlice};
-ghost use Rattle.checker.specs.Decide.{modeOf, decideAnswer, decideSlice};
+ghost use Rattle.checker.specs.Decide.{decideAnswer, decideSlice};
 ghost use Rattle.checker.specs.Run.{runAnswer, runMarks, runSteps};
-ghost use Rattle.checker.specs.Demands.{SecondDemand, ThirdDemand, RunDemand};
-ghost use Rattle.checker.specs.Join.{joinAnswer, joinSlice, IsJoin};
+ghost use Rattle.checker.specs.Demands.{DecideDemands, RunDemands};
+ghost use Rattle.checker.specs.Join.{joinAnswer, joinSlice, JoinDemands};
 use tables::Checked;
 use tables::Opened;
 use tables::Refusal;
@@ -86,8 +82,7 @@ pub fn moves(file: &[u8], question: Question, out: &mut [u16]) -> Counted
 pub fn decide(file: &[u8], question: Question, mode: usize, marks: &mut [u16]) -> Decided
     ensures answer { λ r. ⌜ decided r ≡ decideAnswer (now (file .entry)) question mode (length (now (marks .entry))) ⌝ }
     ensures slice { λ r. ⌜ now (marks .exit) ≡ decideSlice (now (file .entry)) question mode (now (marks .entry)) ⌝ }
-    ensures second { λ r. ⌜ ((verdict kept rounds : ℕ) → decided r ≡ carriedOut (verdict ∷ kept ∷ rounds ∷ []) → SecondDemand (modeOf mode) (demandOf (now (file .entry)) question) (supplyOf (now (file .entry)) question) (question .demand .state) (question .supply .state) verdict rounds (now (marks .exit))) ⌝ }
-    ensures third { λ r. ⌜ ((verdict kept rounds : ℕ) → decided r ≡ carriedOut (verdict ∷ kept ∷ rounds ∷ []) → ThirdDemand (modeOf mode) (demandOf (now (file .entry)) question) (supplyOf (now (file .entry)) question) (question .demand .state) (question .supply .state) verdict kept (now (marks .exit))) ⌝ }
+    ensures demands { λ r. ⌜ DecideDemands (now (file .entry)) question mode (decided r) (now (marks .exit)) ⌝ }
 {
     let found = open(file);
     let Opened::Tables(k) = found else {
@@ -110,7 +105,7 @@ pub fn run(
     ensures answer { λ r. ⌜ counted r ≡ runAnswer (now (file .entry)) question mode (length (now (marks .entry))) (length (now (steps .entry))) ⌝ }
     ensures marks { λ r. ⌜ now (marks .exit) ≡ runMarks (now (file .entry)) question mode (now (marks .entry)) (length (now (steps .entry))) ⌝ }
     ensures steps { λ r. ⌜ now (steps .exit) ≡ runSteps (now (file .entry)) question mode (length (now (marks .entry))) (now (steps .entry)) ⌝ }
-    ensures second { λ r. ⌜ ((count : ℕ) → counted r ≡ carriedOut (count ∷ []) → RunDemand (modeOf mode) (demandOf (now (file .entry)) question) (supplyOf (now (file .entry)) question) (question .demand .state) (question .supply .state) count (now (marks .exit)) (now (steps .exit))) ⌝ }
+    ensures demands { λ r. ⌜ RunDemands (now (file .entry)) question mode (counted r) (now (marks .exit)) (now (steps .exit)) ⌝ }
 {
     let found = open(file);
     let Opened::Tables(k) = found else {
@@ -126,7 +121,7 @@ pub fn run(
 pub fn join(file: &[u8], first: usize, second: usize, out: &mut [u8]) -> Joined
     ensures answer { λ r. ⌜ joined r ≡ joinAnswer (now (file .entry)) first second (length (now (out .entry))) ⌝ }
     ensures slice { λ r. ⌜ now (out .exit) ≡ joinSlice (now (file .entry)) first second (now (out .entry)) ⌝ }
-    ensures table { λ r. ⌜ ((n m : ℕ) → joined r ≡ carriedOut (n ∷ m ∷ []) → IsJoin (machineOf (now (file .entry)) first) (machineOf (now (file .entry)) second) n m (now (out .exit))) ⌝ }
+    ensures demands { λ r. ⌜ JoinDemands (now (file .entry)) first second (joined r) (now (out .exit)) ⌝ }
 {
     let found = open(file);
     let Opened::Tables(k) = found else {

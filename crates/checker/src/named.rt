@@ -7,7 +7,7 @@ use tables::Refusal;
 use tables::entry_at;
 
 // A table that a call names: its number, and the kind that it has to be.
-pub struct Named {
+pub(crate) struct Named {
     pub table: usize,
     pub kind: u8,
 }

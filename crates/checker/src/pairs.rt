@@ -2,8 +2,8 @@
 ghost use mathlib.Core.Path.{_≡_};
 ghost use lib.ListN.{length};
 ghost use Prim.Native.Nat.{_≤_};
-ghost use Rattle.checker.specs.Answers.{counted, decided};
-ghost use Rattle.checker.specs.Pairs.{pairFault, PairAccepted};
+ghost use Rattle.checker.specs.Calls.{counted, decided};
+ghost use Rattle.checker.specs.Pairs.{pairFault, PairAccepted, pairOf, PairLoaded};
 ghost use Rattle.checker.specs.Moves.{movesAnswer, movesSlice};
 ghost use Rattle.checker.specs.Decide.{modeOf, decideFault, decideAnswer, decideSlice};
 ghost use Rattle.checker.specs.Run.{runAnswer, runMarks, runSteps};
@@ -13,13 +13,14 @@ use crate::Question;
 use crate::Verdict;
 use crate::named::Named;
 use crate::named::check_named;
-use marks::Sizes;
-use moves::rows_of;
+use machines::Layout;
+use machines::load_table;
+use machines::states;
 use rules::Mode;
+use rules::Pair;
 use tables::Checked;
 use tables::Refusal;
-use tables::entry_at;
-use tables::entry_body;
+use tables::states_of;
 
 // What turns back a question about a pair in a file of k tables.
 pub(crate) fn check_pair(file: &[u8], k: usize, question: Question) -> Checked
@@ -30,12 +31,10 @@ pub(crate) fn check_pair(file: &[u8], k: usize, question: Question) -> Checked
     if let Checked::Fault(refusal) = check_named(file, k, task, offer) {
         return Checked::Fault(refusal);
     }
-    let demand = entry_at(file, question.demand.table);
-    let supply = entry_at(file, question.supply.table);
-    if (demand.states as usize) <= question.demand.state {
+    if (states_of(file, question.demand.table) as usize) <= question.demand.state {
         return Checked::Fault(Refusal::new(13, 0));
     }
-    if (supply.states as usize) <= question.supply.state {
+    if (states_of(file, question.supply.table) as usize) <= question.supply.state {
         return Checked::Fault(Refusal::new(13, 0));
     }
     Checked::Passed
@@ -54,24 +53,6 @@ pub(crate) fn check_decision(file: &[u8], k: usize, question: Question, mode: us
     Checked::Passed
 }
 
-// Counts the surviving moves of the pair, and writes them where there is room.
-pub(crate) fn write_moves(file: &[u8], question: Question, out: &mut [u16]) -> Counted
-    requires { ⌜ PairAccepted (now file) question ⌝ }
-    ensures answer { λ r. ⌜ counted r ≡ movesAnswer (now (file .entry)) question (length (now (out .entry))) ⌝ }
-    ensures slice { λ r. ⌜ now (out .exit) ≡ movesSlice (now (file .entry)) question (now (out .entry)) ⌝ }
-{
-    let requests = entry_body(file, entry_at(file, question.demand.table));
-    let grants = entry_body(file, entry_at(file, question.supply.table));
-    let task = rows_of(requests, question.demand.state as u8);
-    let offers = rows_of(grants, question.supply.state as u8);
-    let count = moves::count(requests, task, grants, offers);
-    if out.len() / moves::ENTRIES_PER_MOVE < count {
-        return Counted::Refused(Refusal::new(14, 0));
-    }
-    moves::write(requests, task, grants, offers, out);
-    Counted::Count(count)
-}
-
 // The mode with a number: 0 full, 1 partial.
 fn mode_of(number: usize) -> Mode
     ensures { λ r. ⌜ r ≡ modeOf number ⌝ }
@@ -80,6 +61,39 @@ fn mode_of(number: usize) -> Mode
         return Mode::Full;
     }
     Mode::Partial
+}
+
+// Loads the two tables that a question names, and returns the pair that it asks about.
+fn load_pair(file: &[u8], question: Question, demand: &mut [u32], supply: &mut [u32]) -> Pair
+    requires { ⌜ PairAccepted (now file) question × (579 ≤ length (now demand)) × (579 ≤ length (now supply)) ⌝ }
+    ensures pair { λ r. ⌜ r ≡ pairOf question ⌝ }
+    ensures loaded { λ r. ⌜ PairLoaded (now (file .entry)) question (now (demand .exit)) (now (supply .exit)) ⌝ }
+    ensures demand_length { λ r. ⌜ length (now (demand .exit)) ≡ length (now (demand .entry)) ⌝ }
+    ensures supply_length { λ r. ⌜ length (now (supply .exit)) ≡ length (now (supply .entry)) ⌝ }
+{
+    load_table(file, question.demand.table, 0, demand);
+    load_table(file, question.supply.table, 0, supply);
+    Pair {
+        demand: question.demand.state as u8,
+        supply: question.supply.state as u8,
+    }
+}
+
+// Counts the surviving moves of the pair, and writes them where there is room.
+pub(crate) fn write_moves(file: &[u8], question: Question, out: &mut [u16]) -> Counted
+    requires { ⌜ PairAccepted (now file) question ⌝ }
+    ensures answer { λ r. ⌜ counted r ≡ movesAnswer (now (file .entry)) question (length (now (out .entry))) ⌝ }
+    ensures slice { λ r. ⌜ now (out .exit) ≡ movesSlice (now (file .entry)) question (now (out .entry)) ⌝ }
+{
+    let mut demand = [0u32; Layout::ENTRIES];
+    let mut supply = [0u32; Layout::ENTRIES];
+    let pair = load_pair(file, question, &mut demand, &mut supply);
+    let count = moves::count(&demand, &supply, pair);
+    if out.len() / moves::ENTRIES_PER_MOVE < count {
+        return Counted::Refused(Refusal::new(14, 0));
+    }
+    moves::write(&demand, &supply, pair, out);
+    Counted::Count(count)
 }
 
 // Writes the marks of all pairs of states where there is room, and reads the start pair's.
@@ -93,25 +107,15 @@ pub(crate) fn write_marks(
     ensures answer { λ r. ⌜ decided r ≡ decideAnswer (now (file .entry)) question mode (length (now (marks .entry))) ⌝ }
     ensures slice { λ r. ⌜ now (marks .exit) ≡ decideSlice (now (file .entry)) question mode (now (marks .entry)) ⌝ }
 {
-    let demand = entry_at(file, question.demand.table);
-    let supply = entry_at(file, question.supply.table);
-    if marks.len() < demand.states as usize * supply.states as usize {
+    let mut demand = [0u32; Layout::ENTRIES];
+    let mut supply = [0u32; Layout::ENTRIES];
+    let start = load_pair(file, question, &mut demand, &mut supply);
+    if marks.len() < states(&demand) as usize * states(&supply) as usize {
         return Decided::Refused(Refusal::new(14, 0));
     }
-    let sizes = Sizes {
-        demand: demand.states,
-        supply: supply.states,
-    };
-    let summary = marks::write(
-        entry_body(file, demand),
-        entry_body(file, supply),
-        sizes,
-        mode_of(mode),
-        marks,
-    );
-    let start = question.demand.state * supply.states as usize + question.supply.state;
+    let summary = marks::write(&demand, &supply, mode_of(mode), marks);
     Decided::Answered(Verdict {
-        yes: marks[start] == 0,
+        yes: marks::mark_of(&supply, marks, start) == 0,
         kept: summary.kept,
         rounds: summary.rounds,
     })
@@ -130,24 +134,17 @@ pub(crate) fn write_run(
     ensures marks { λ r. ⌜ now (marks .exit) ≡ runMarks (now (file .entry)) question mode (now (marks .entry)) (length (now (steps .entry))) ⌝ }
     ensures steps { λ r. ⌜ now (steps .exit) ≡ runSteps (now (file .entry)) question mode (length (now (marks .entry))) (now (steps .entry)) ⌝ }
 {
-    let demand = entry_at(file, question.demand.table);
-    let supply = entry_at(file, question.supply.table);
-    let pairs = demand.states as usize * supply.states as usize;
+    let mut demand = [0u32; Layout::ENTRIES];
+    let mut supply = [0u32; Layout::ENTRIES];
+    let start = load_pair(file, question, &mut demand, &mut supply);
+    let pairs = states(&demand) as usize * states(&supply) as usize;
     if marks.len() < pairs {
         return Counted::Refused(Refusal::new(14, 0));
     }
     if steps.len() < 2 * pairs {
         return Counted::Refused(Refusal::new(14, 0));
     }
-    let requests = entry_body(file, demand);
-    let grants = entry_body(file, supply);
-    let sizes = Sizes {
-        demand: demand.states,
-        supply: supply.states,
-    };
     let asked = mode_of(mode);
-    marks::write(requests, grants, sizes, asked, marks);
-    let t = question.demand.state as u8;
-    let s = question.supply.state as u8;
-    Counted::Count(runs::write(requests, grants, sizes, asked, t, s, marks, steps) as usize)
+    marks::write(&demand, &supply, asked, marks);
+    Counted::Count(runs::write(&demand, &supply, asked, start, marks, steps) as usize)
 }

@@ -1,2 +1,2 @@
-pub mod Rows
+pub mod Building
 pub mod Joins

@@ -4,7 +4,7 @@ ghost use mathlib.Core.List.{[], _∷_};
 ghost use Prim.Native.Nat.{_+_, _*_, _≤_};
 ghost use lib.ListN.{length};
 ghost use Rattle.tables.specs.Tables.{rowsOf};
-ghost use Rattle.joins.specs.Rows.{IsPosition, standsAt, putAt, Grows};
+ghost use Rattle.joins.specs.Building.{IsPosition, standsAt, putAt, Grows};
 use rules::Limits;
 use rules::Row;
 use tables::row_at;

@@ -10,7 +10,6 @@ use Rattle.rules.specs.Below.{one}
 use Rattle.rules.specs.Slices.{overwrite}
 use Rattle.rules.specs.Machines.{Machine}
 use Rattle.rules.specs.Rounds.{mark, keptCount, rounds}
-use Rattle.rules.specs.Steps.{steps}
 use Rattle.rules.proofs.BelowLaws.{one-same}
 use Rattle.tables.specs.declared.Refusal.{Refusal}
 use Rattle.tables.specs.declared.Checked.the-variants.{Passed}
@@ -20,10 +19,11 @@ use Rattle.checker.specs.declared.Verdict.{Verdict}
 use Rattle.checker.specs.Pairs.{PairAccepted, demandOf, supplyOf}
 use Rattle.checker.specs.Decide.{modeOf, decideAnswer}
 use Rattle.checker.specs.Run.{runChecks, runAnswer, runSteps}
-use Rattle.checker.proofs.PairLaws.{asked-demand, asked-supply, states-few}
+use Rattle.checker.proofs.PairLaws.{asked-demand, asked-supply}
 use Rattle.checker.proofs.DecideLaws.{none-fault}
 use Rattle.checker.proofs.RunLaws.{no-fault}
 use Rattle.report.specs.declared.pages.Found.{Found}
+use Rattle.report.specs.Pages.{stepsAt}
 
 -- values that are returned are no refusal
 values-refused : (r : Refusal) (x : ℕ) (xs : List ℕ) → turnedBack r ≡ carriedOut (x ∷ xs) → ⊥
@@ -35,9 +35,7 @@ found-is e f = λ i. record { verdict = e i; steps = f i }
 
 module _ (s : List ℕ) (q : Question) (a : PairAccepted s q) where
   pub few-pairs : demandOf s q .n * supplyOf s q .n ≤ 4096
-  few-pairs =
-      mul-le-mul (states-few s (q .demand .table) (q .demand .state) (asked-demand s q a) _ refl)
-      (states-few s (q .supply .table) (q .supply .state) (asked-supply s q a) _ refl)
+  few-pairs = mul-le-mul (asked-demand s q a .table .few-states) (asked-supply s q a .table .few-states)
 
   module _ (mode : ℕ) (known : mode ≤ 1) (room : ℕ) (enough : 4096 ≤ room) where
     abbrev D : Machine
@@ -54,7 +52,7 @@ module _ (s : List ℕ) (q : Question) (a : PairAccepted s q) where
 
     decided-is : decideAnswer s q mode room ≡ carriedOut (one (eqb start 0) ∷ keptCount (modeOf mode) D S ∷ rounds (modeOf mode) D S ∷ [])
     unfolding decideAnswer
-    decided-is = rw (none-fault s q mode a known _ refl _ refl room long) refl
+    decided-is = rw (none-fault s q mode a known room long) refl
 
     pub decide-refused : (r : Refusal) → turnedBack r ≡ decideAnswer s q mode room → ⊥
     decide-refused r e = values-refused r _ _ (e ∙ decided-is)
@@ -70,7 +68,7 @@ module _ (s : List ℕ) (q : Question) (a : PairAccepted s q) where
 
     module _ (more : ℕ) (wide : 8192 ≤ more) where
       passes : runChecks s q mode room more ≡ Passed
-      passes = no-fault s q mode a known _ refl _ refl room long more (let few = few-pairs in omega arith)
+      passes = no-fault s q mode a known room long more (let few = few-pairs in omega arith)
 
       run-is : runAnswer s q mode room more ≡ carriedOut (start ∷ [])
       unfolding runAnswer
@@ -83,6 +81,6 @@ module _ (s : List ℕ) (q : Question) (a : PairAccepted s q) where
       run-counted count e = ap (λ (x : Answer). getD (x .values) 0 0) (e ∙ run-is)
 
     pub run-steps : (entry : List ℕ) → 8192 ≤ length entry
-        → runSteps s q mode room entry ≡ overwrite (steps (modeOf mode) D S (q .demand .state) (q .supply .state)) entry
+        → runSteps s q mode room entry ≡ overwrite (stepsAt (modeOf mode) s q) entry
     unfolding runSteps
     run-steps entry wide = rw (passes (length entry) wide) refl

@@ -8,7 +8,7 @@ use Rattle.rules.specs.declared.Mode.the-variants.{Full, Partial}
 use Rattle.rules.specs.Slices.{writeAt}
 use Rattle.text.proofs.TextLaws.{put-both}
 use Rattle.report.specs.declared.pages.Found.{Found}
-use Rattle.report.specs.declared.pages.Answers.{Answers}
+use Rattle.report.specs.declared.pages.Outcome.{Outcome}
 use Rattle.report.specs.declared.pages.Page.the-variants.{Answered}
 use Rattle.report.specs.Lines.{fileLine, startLine, verdictLine}
 use Rattle.report.specs.Pages.{stepLines, foundText, pageText}
@@ -35,7 +35,7 @@ module _ (mode : Mode) (found : Found) (steps : List ℕ) where
 
 -- ---- the answers
 
-module _ (a : Answers) (full partial : List ℕ) where
+module _ (a : Outcome) (full partial : List ℕ) where
   pub length-page : length (pageText (Answered a) full partial)
       ≡ length (fileLine (a .bytes) (a .tables)) + length (startLine (a .question)) + length (foundText Full (a .full) full) + length (foundText Partial (a .partial) partial)
   length-page = four (fileLine (a .bytes) (a .tables)) (startLine (a .question)) (foundText Full (a .full) full) (foundText Partial (a .partial) partial)

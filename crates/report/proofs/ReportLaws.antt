@@ -26,6 +26,7 @@ use Rattle.tables.specs.declared.Opened.the-variants.{Tables, Refused}
 use Rattle.tables.specs.Checks.{refuse, fault, _then_}
 use Rattle.tables.specs.Answers.{Answer, answer, turnedBack, carriedOut, opened}
 use Rattle.tables.specs.File.{tablesOf, entryOf}
+use Rattle.tables.specs.Tables.{tableOf}
 use Rattle.tables.specs.Open.{fileFault, openOf}
 use Rattle.tables.proofs.CheckLaws.{fault-passed, passed-fault, then-left, then-right, then-both}
 use Rattle.tables.proofs.AcceptedLaws.{passed-accepted, tables-passed, refused-fault}
@@ -38,7 +39,7 @@ use Rattle.text.proofs.TextLaws.{length-decimal}
 use Rattle.report.specs.Lines.{refusedLine, fileLine, startLine, modeWord, verdictWord, verdictLine, stepLine}
 use Rattle.report.specs.Report.{firstOf, firstDemand, firstSupply, startOf, startSide, questionOf, programChecks, modeText, decisionText, textAfter, text, roomFault, reportAnswer, reportBytes}
 use Rattle.report.specs.declared.pages.Found.{Found}
-use Rattle.report.specs.declared.pages.Answers.{Answers}
+use Rattle.report.specs.declared.pages.Outcome.{Outcome}
 use Rattle.report.specs.declared.pages.Page.{Page}
 use Rattle.report.specs.declared.pages.Page.the-variants as page
 use Rattle.report.specs.Pages.{stepLines, foundText, foundOf, pageText, Whole}
@@ -93,7 +94,7 @@ module _ (s : List ℕ) (passed : programChecks s ≡ Passed) where
   unfolding programChecks
   supply-there = leb-false _ _ (fault-passed _ _ _ (then-right _ _ (then-right _ _ passed)))
 
-  start-state : (i : ℕ) → i < tablesOf s → startOf (entryOf s i .states) < entryOf s i .states
+  start-state : (i : ℕ) → i < tablesOf s → startOf (tableOf s i .n) < tableOf s i .n
   start-state i h = start-below _ (passed-accepted s file-fault .table i h .some-state)
 
   kind-right : (kind i : ℕ) → entryOf s i .kind ≡ kind → not (eqb (entryOf s i .kind) kind) ≡ false
@@ -216,9 +217,9 @@ module _ (s full partial : List ℕ) where
     abbrev run : ℕ → List ℕ
     run mode = steps (modeOf mode) (demandOf s q) (supplyOf s q) (q .demand .state) (q .supply .state)
 
-    text-answers : text s ≡ fileLine (length s) k ++ startLine q ++ decisionText Full s q ++ decisionText Partial s q
+    text-outcome : text s ≡ fileLine (length s) k ++ startLine q ++ decisionText Full s q ++ decisionText Partial s q
     unfolding text
-    text-answers =
+    text-outcome =
         ap (λ (c : Checked). textAfter c s) passed
         ∙ (λ i. fileLine (length s) (count i) ++ startLine (same i) ++ decisionText Full s (same i) ++ decisionText Partial s (same i))
 
@@ -231,22 +232,22 @@ module _ (s full partial : List ℕ) where
 
     module _ (every some : Found) (entry more : List ℕ) (full-found : every ≡ found 0) (full-run : full ≡ overwrite (run 0) entry)
         (partial-found : some ≡ found 1) (partial-run : partial ≡ overwrite (run 1) more) where
-      abbrev answers : Answers
-      answers = record { bytes = length s; tables = k; question = q; full = every; partial = some }
+      abbrev outcome : Outcome
+      outcome = record { bytes = length s; tables = k; question = q; full = every; partial = some }
 
-      page-is : pageText (page.Answered answers) full partial ≡ text s
+      page-is : pageText (page.Answered outcome) full partial ≡ text s
       unfolding modeOf
       page-is =
           (λ i. fileLine (length s) k ++ startLine q ++ foundText Full (full-found i) (full-run i) ++ foundText Partial (partial-found i) (partial-run i))
           ∙ (λ i. fileLine (length s) k ++ startLine q
           ++ found-text Full (demandOf s q) (supplyOf s q) (q .demand .state) (q .supply .state) entry i
           ++ found-text Partial (demandOf s q) (supplyOf s q) (q .demand .state) (q .supply .state) more i)
-          ∙ sym text-answers
+          ∙ sym text-outcome
 
       pub answered-page : 8192 ≤ length full → 8192 ≤ length partial
-          → (pageText (page.Answered answers) full partial ≡ text s) × Whole (page.Answered answers) full partial
+          → (pageText (page.Answered outcome) full partial ≡ text s) × Whole (page.Answered outcome) full partial
       answered-page h l =
-          (page-is, record { steps-in = (steps-in 0 every full full-found h, steps-in 1 some partial partial-found l); short = page-short (page.Answered answers) page-is })
+          (page-is, record { steps-in = (steps-in 0 every full full-found h, steps-in 1 some partial partial-found l); short = page-short (page.Answered outcome) page-is })
 
 -- ---- the call
 

@@ -7,6 +7,9 @@ use Rattle.rules.specs.declared.Mode.{Mode}
 use Rattle.rules.specs.declared.Mode.the-variants.{Full, Partial}
 use Rattle.rules.specs.Machines.{Machine}
 use Rattle.rules.specs.Rounds.{mark, keptCount, rounds}
+use Rattle.rules.specs.Steps.{steps}
+use Rattle.checker.specs.declared.Question.{Question}
+use Rattle.checker.specs.Pairs.{demandOf, supplyOf}
 use Rattle.report.specs.declared.pages.Found.{Found}
 use Rattle.report.specs.declared.pages.Page.{Page}
 use Rattle.report.specs.declared.pages.Page.the-variants.{Refused, Answered}
@@ -43,3 +46,10 @@ pub record Whole (page : Page) (full partial : List ℕ) : Type 0 where
 abbrev pub foundOf : Mode → Machine → Machine → ℕ → ℕ → Found
 foundOf mode D S t w =
     record { verdict = record { yes = eqb (mark mode D S t w) 0; kept = keptCount mode D S; rounds = rounds mode D S }; steps = mark mode D S t w }
+
+-- and with its steps, of a question about a file
+abbrev pub foundAt : Mode → List ℕ → Question → Found
+foundAt mode s q = foundOf mode (demandOf s q) (supplyOf s q) (q .demand .state) (q .supply .state)
+
+abbrev pub stepsAt : Mode → List ℕ → Question → List ℕ
+stepsAt mode s q = steps mode (demandOf s q) (supplyOf s q) (q .demand .state) (q .supply .state)

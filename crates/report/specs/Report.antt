@@ -16,9 +16,10 @@ use Rattle.tables.specs.Checks.{fault, _then_}
 use Rattle.tables.specs.Answers.{Answer, answer}
 use Rattle.tables.specs.File.{tablesOf, entryOf}
 use Rattle.tables.specs.Open.{fileFault}
+use Rattle.tables.specs.Tables.{tableOf}
 use Rattle.checker.specs.declared.Side.{Side}
 use Rattle.checker.specs.declared.Question.{Question}
-use Rattle.checker.specs.Answers.{sliceAfter}
+use Rattle.checker.specs.Calls.{sliceAfter}
 use Rattle.checker.specs.Pairs.{demandOf, supplyOf}
 use Rattle.report.specs.Lines.{refusedLine, fileLine, startLine, verdictLine, stepLine}
 
@@ -40,7 +41,7 @@ startOf n = cond (eqb n 1) 0 1
 
 -- a table with the state that it is started from
 abbrev pub startSide : List ℕ → ℕ → Side
-startSide s table = record { table = table; state = startOf (entryOf s table .states) }
+startSide s table = record { table = table; state = startOf (tableOf s table .n) }
 
 -- what is asked: the two tables, each from its start
 abbrev pub questionOf : List ℕ → Question

@@ -2,7 +2,7 @@
 // file, on `checker` for the decisions and the runs, on `text` for words and numbers, and on `rules` for rows and limits.
 ghost use mathlib.Core.Path.{_≡_};
 ghost use lib.ListN.{length};
-ghost use Rattle.checker.specs.Answers.{counted};
+ghost use Rattle.checker.specs.Calls.{counted};
 ghost use Rattle.report.specs.Report.{reportAnswer, reportBytes};
 use checker::Counted;
 use pages::STEP_ENTRIES;

@@ -3,12 +3,11 @@ ghost use Prim.Native.Nat.{_+_, _*_, _^_, _≤_, _<_};
 ghost use mathlib.Core.Path.{_≡_};
 ghost use lib.ListN.{length};
 ghost use Rattle.rules.specs.Slices.{writeAt, overwrite};
-ghost use Rattle.rules.specs.Steps.{steps as stepsOf};
-ghost use Rattle.checker.specs.Pairs.{PairAccepted, demandOf, supplyOf};
+ghost use Rattle.checker.specs.Pairs.{PairAccepted};
 ghost use Rattle.checker.specs.Decide.{modeOf};
 ghost use Rattle.report.specs.declared.pages.Page.the-variants.{Answered};
 ghost use Rattle.report.specs.Report.{text, firstOf, startSide};
-ghost use Rattle.report.specs.Pages.{foundOf, foundText, pageText, Whole};
+ghost use Rattle.report.specs.Pages.{foundAt, stepsAt, foundText, pageText, Whole};
 use crate::lines::put_file;
 use crate::lines::put_refused;
 use crate::lines::put_start;
@@ -28,6 +27,7 @@ use tables::Refusal;
 use tables::entry_at;
 use tables::open;
 use tables::refusal_of;
+use tables::states_of;
 
 // Entries for the marks of the most pairs there can be, and for the longest run.
 const PAIRS: usize = Limits::STATES * Limits::STATES;
@@ -35,7 +35,7 @@ const PAIRS: usize = Limits::STATES * Limits::STATES;
 pub(crate) const STEP_ENTRIES: usize = 2 * PAIRS;
 
 // What a mode finds: the verdict, and how many steps show a no.
-pub struct Found {
+pub(crate) struct Found {
     pub verdict: Verdict,
     pub steps: usize,
 }
@@ -53,7 +53,7 @@ impl Found {
 }
 
 // What the text tells of a file that has both kinds of table.
-pub struct Answers {
+pub(crate) struct Outcome {
     pub bytes: usize,
     pub tables: usize,
     pub question: Question,
@@ -61,9 +61,9 @@ pub struct Answers {
     pub partial: Found,
 }
 
-pub enum Page {
+pub(crate) enum Page {
     Refused(Refusal),
-    Answered(Answers),
+    Answered(Outcome),
 }
 
 // The first table of a kind, or k where there is none.
@@ -83,8 +83,7 @@ fn first_table(file: &[u8], k: usize, kind: u8) -> usize
 fn start_side(file: &[u8], table: usize) -> Side
     ensures { λ r. ⌜ r ≡ startSide (now (file .entry)) table ⌝ }
 {
-    let entry = entry_at(file, table);
-    if entry.states == 1 {
+    if states_of(file, table) == 1 {
         let state = Row::FIN as usize;
         return Side { table, state };
     }
@@ -94,8 +93,8 @@ fn start_side(file: &[u8], table: usize) -> Side
 // What a mode finds, and in `steps` the run that shows a no. Nothing turns back a call here, so the answer for that case is never given.
 fn find(file: &[u8], question: Question, mode: usize, steps: &mut [u16]) -> Found
     requires { ⌜ PairAccepted (now file) question × (mode ≤ 1) × (8192 ≤ length (now steps)) ⌝ }
-    ensures found { λ r. ⌜ r ≡ foundOf (modeOf mode) (demandOf (now (file .entry)) question) (supplyOf (now (file .entry)) question) (question .demand .state) (question .supply .state) ⌝ }
-    ensures steps { λ r. ⌜ now (steps .exit) ≡ overwrite (stepsOf (modeOf mode) (demandOf (now (file .entry)) question) (supplyOf (now (file .entry)) question) (question .demand .state) (question .supply .state)) (now (steps .entry)) ⌝ }
+    ensures found { λ r. ⌜ r ≡ foundAt (modeOf mode) (now (file .entry)) question ⌝ }
+    ensures steps { λ r. ⌜ now (steps .exit) ≡ overwrite (stepsAt (modeOf mode) (now (file .entry)) question) (now (steps .entry)) ⌝ }
 {
     let mut marks = [0u16; PAIRS];
     let decided = checker::decide(file, question, mode, &mut marks);
@@ -136,7 +135,7 @@ pub(crate) fn compose(file: &[u8], full: &mut [u16], partial: &mut [u16]) -> Pag
     };
     let every = find(file, question, 0, full);
     let some = find(file, question, 1, partial);
-    Page::Answered(Answers {
+    Page::Answered(Outcome {
         bytes: file.len(),
         tables: k,
         question,
@@ -156,15 +155,15 @@ fn put_found(out: &mut [u8], at: usize, mode: Mode, found: Found, steps: &[u16])
     put_steps(out, at, &steps[..end])
 }
 
-fn put_answers(out: &mut [u8], answers: Answers, full: &[u16], partial: &[u16]) -> usize
-    requires { ⌜ Whole (Answered answers) (now full) (now partial) ⌝ }
-    ensures place { λ r. ⌜ r ≡ length (pageText (Answered answers) (now (full .entry)) (now (partial .entry))) ⌝ }
-    ensures bytes { λ r. ⌜ now (out .exit) ≡ writeAt 0 (pageText (Answered answers) (now (full .entry)) (now (partial .entry))) (now (out .entry)) ⌝ }
+fn put_outcome(out: &mut [u8], outcome: Outcome, full: &[u16], partial: &[u16]) -> usize
+    requires { ⌜ Whole (Answered outcome) (now full) (now partial) ⌝ }
+    ensures place { λ r. ⌜ r ≡ length (pageText (Answered outcome) (now (full .entry)) (now (partial .entry))) ⌝ }
+    ensures bytes { λ r. ⌜ now (out .exit) ≡ writeAt 0 (pageText (Answered outcome) (now (full .entry)) (now (partial .entry))) (now (out .entry)) ⌝ }
 {
-    let at = put_file(out, 0, answers.bytes, answers.tables);
-    let at = put_start(out, at, answers.question);
-    let at = put_found(out, at, Mode::Full, answers.full, full);
-    put_found(out, at, Mode::Partial, answers.partial, partial)
+    let at = put_file(out, 0, outcome.bytes, outcome.tables);
+    let at = put_start(out, at, outcome.question);
+    let at = put_found(out, at, Mode::Full, outcome.full, full);
+    put_found(out, at, Mode::Partial, outcome.partial, partial)
 }
 
 // Writes a text that is composed, as far as the buffer reaches, and returns its length.
@@ -175,6 +174,6 @@ pub(crate) fn put_page(out: &mut [u8], page: Page, full: &[u16], partial: &[u16]
 {
     match page {
         Page::Refused(refusal) => put_refused(out, 0, refusal),
-        Page::Answered(answers) => put_answers(out, answers, full, partial),
+        Page::Answered(outcome) => put_outcome(out, outcome, full, partial),
     }
 }

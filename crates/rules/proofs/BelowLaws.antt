@@ -2,7 +2,7 @@
 use Prim.Native.Nat.{ℕ, zero, suc, _+_, _-_, _*_, _≤_, _<_, max}
 use mathlib.Core.Path.{_≡_, refl, sym, ap, ap₂, _∙_, subst}
 use mathlib.Core.Bool.{Bool, true, false, not}
-use mathlib.Core.List.{List, [], _∷_, _++_, append-nil, append-assoc, List·Memᴰ, List·Memᴰ·head, Memᴰ·append-left, Memᴰ·append-right}
+use mathlib.Core.List.{List, [], _∷_, _++_, map, append-nil, append-assoc, List·Memᴰ, List·Memᴰ·head, Memᴰ·append-left, Memᴰ·append-right}
 use mathlib.Core.Logic.{_⊎_, inl, inr}
 use native.Mathlib.Omega.{arith}
 use native.Mathlib.Decide.{le-ind}
@@ -15,6 +15,7 @@ use Rattle.rules.specs.Below.{listBelow, listsBelow, sumBelow, maxBelow,
 use Rattle.rules.specs.Machines.{Machine}
 use Rattle.rules.specs.Rounds.{countPairs}
 use Rattle.rules.proofs.Booleans.{T-or}
+use Rattle.rules.proofs.ListLaws.{map-append}
 
 -- a number below n + 1 is below n or is n
 pub lt-cases : (j n : ℕ) → j < suc n → (j < n) ⊎ (j ≡ n)
@@ -56,6 +57,14 @@ module _ {A : Type 0} (f : ℕ → A) where
     where
       further : (m : ℕ) → i ≤ m → (rest : List A) × (listBelow m f ≡ listBelow i f ++ rest) → (rest : List A) × (listBelow (suc m) f ≡ listBelow i f ++ rest)
       further m k (rest, e) = (rest ++ (f m ∷ []), ap (λ (z : List A). z ++ (f m ∷ [])) e ∙ append-assoc (listBelow i f) rest (f m ∷ []))
+
+pub listBelow-cong : {A : Type 0} (f g : ℕ → A) (n : ℕ) → ((i : ℕ) → i < n → f i ≡ g i) → listBelow n f ≡ listBelow n g
+listBelow-cong f g zero h = refl
+listBelow-cong {A} f g (suc n) h = ap₂ (λ (l : List A) (x : A). l ++ (x ∷ [])) (listBelow-cong f g n (λ i l. h i (omega arith))) (h n (omega arith))
+
+pub map-listBelow : {A B : Type 0} (g : A → B) (f : ℕ → A) (n : ℕ) → map g (listBelow n f) ≡ listBelow n (λ i. g (f i))
+map-listBelow g f zero = refl
+map-listBelow {A} {B} g f (suc n) = map-append g (listBelow n f) (f n ∷ []) ∙ ap (λ (l : List B). l ++ (g (f n) ∷ [])) (map-listBelow g f n)
 
 -- lists of m, end to end: entry s of list t
 module _ (m : ℕ) (f : ℕ → ℕ → ℕ) where

@@ -95,3 +95,7 @@ or-false-l false b e = refl
 pub or-false-r : (a b : Bool) → a || b ≡ false → b ≡ false
 or-false-r true b e = cc
 or-false-r false b e = e
+
+pub not-not : (a : Bool) → not (not a) ≡ a
+not-not true = refl
+not-not false = refl

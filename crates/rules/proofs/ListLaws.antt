@@ -288,3 +288,13 @@ module _ {A : Type 0} (d : A) where
   pairwise-getD R (x ∷ xs) p i zero k h = absurd (omega arith)
   pairwise-getD R (x ∷ xs) p zero (suc j) k h = p .0 (getD xs j d) (getD-mem xs j (omega arith))
   pairwise-getD R (x ∷ xs) p (suc i) (suc j) k h = pairwise-getD R xs (p .1) i j (omega arith) (omega arith)
+
+-- every element that passes p passes q exactly if none passes both p and the opposite of q
+pub all-any : {A : Type 0} (p q r : A → Bool) → ((x : A) → r x ≡ not (q x)) → (l : List A) → all (λ x. not (p x) || q x) l ≡ not (any (λ x. p x && r x) l)
+all-any p q r e [] = refl
+all-any p q r e (x ∷ xs) = go (p x) (q x) (all (λ y. not (p y) || q y) xs) (any (λ y. p y && r y) xs) (e x) (all-any p q r e xs)
+  where
+    go : (a b c d : Bool) → r x ≡ not b → c ≡ not d → ((not a || b) && c) ≡ not ((a && r x) || d)
+    go false b c d f h = h
+    go true true c d f h = h ∙ ap (λ (y : Bool). not (y || d)) (sym f)
+    go true false c d f h = ap (λ (y : Bool). not (y || d)) (sym f)

@@ -1,4 +1,4 @@
-// The vocabulary of tables: rows, moves, the two modes, the limits, and the operations on sets of resources; and the meaning of it all.
+// The vocabulary of tables: rows, moves, pairs of states, the two modes, the limits, and the operations on sets of resources; and the meaning of it all.
 // Specs: sets of any width, machines, PADS, the surviving moves of a pair, the two relations, rounds and marks, runs, the steps that show a no,
 // joins, and the worked examples. Their theorems stand in proofs/. Relies on nothing.
 ghost use mathlib.Core.Path.{_≡_};
@@ -90,6 +90,12 @@ impl Move {
     {
         Move::new(Row::NO_RESPONSE, 0, Row::FIN)
     }
+}
+
+// A pair of states: one of the demand, one of the supply.
+pub struct Pair {
+    pub demand: u8,
+    pub supply: u8,
 }
 
 // Whether every resource of a is in b.

@@ -15,6 +15,7 @@ pub use reads::Entry;
 pub use reads::entry_at;
 pub use reads::entry_body;
 pub use reads::row_at;
+pub use reads::states_of;
 pub use writes::write_row;
 
 // Why a call is turned back: document 01's number, and the place at fault. 0 and 0 where it is carried out.

@@ -4,6 +4,7 @@ ghost use Prim.Native.Nat.{_+_, _*_, _≤_};
 ghost use lib.ListN.{length};
 ghost use Rattle.tables.specs.File.{byteAt, wordAt, entryOf, bodyLength, rowOf};
 ghost use Rattle.tables.specs.Part.{PartOf, span};
+ghost use Rattle.tables.specs.Tables.{tableOf};
 use rules::Row;
 
 // A contents entry: `states` is document 01's n, and `rows` its m.
@@ -68,6 +69,13 @@ pub fn entry_at(file: &[u8], i: usize) -> Entry
         rows: word(file, at + 2),
         offset: word(file, at + 4),
     }
+}
+
+// The n of table i.
+pub fn states_of(file: &[u8], i: usize) -> u8
+    ensures { λ r. ⌜ r ≡ tableOf (now (file .entry)) i .n ⌝ }
+{
+    entry_at(file, i).states
 }
 
 // The part of a file that holds the body of an entry.

@@ -30,31 +30,31 @@ returns c = rw (← (c .before .before .before .check-named .ensures ∙ ap₂ (
 enum-told : tie.Need-enum-told
 enum-told c = search needs
 
-entry-at-requires : tie.Need-entry-at-requires
-entry-at-requires c κs = search needs
+states-of-requires : tie.Need-states-of-requires
+states-of-requires c κs = search needs
 
 cast-states : tie.Need-cast-states
 cast-states c = search needs
 
-entry-at-requires-2 : tie.Need-entry-at-requires-2
-entry-at-requires-2 c κs = search needs
+states-of-requires-2 : tie.Need-states-of-requires-2
+states-of-requires-2 c κs = search needs
 
 cast-states-2 : tie.Need-cast-states-2
 cast-states-2 c = search needs
 
 mul-states : tie.Need-mul-states
-mul-states c = let p = small-product (c .before .before .before .entry-at .result .states) (c .before .entry-at2 .result .states) (omega arith) (omega arith) in omega arith
+mul-states c = let p = small-product (c .before .states-of .result) (c .states-of2 .result) (omega arith) (omega arith) in omega arith
 
 new-requires : tie.Need-new-requires
 new-requires c κs = search needs
 
 returns-2 : tie.Need-returns-2
 unfolding joinFault _then_ fault
-returns-2 c = simp (← (c .before .before .before .before .before .before .before .before .check-named .ensures ∙ ap₂ (namedFault (c .before .before .before .before .before .before .before .before .before .before .before .before .args .file .now) (c .before .before .before .before .before .before .before .before .before .before .before .before .args .k)) (c .before .before .before .before .before .before .before .before .before .before .demand .ensures) (c .before .before .before .before .before .before .before .before .before .demand2 .ensures)), c .before .before .before .before .before .before .enum-told .given .1, ← c .before .before .before .before .before .entry-at .ensures, ← c .before .before .before .entry-at2 .ensures, lt-ltb 64 (c .before .before .before .before .before .entry-at .result .states * c .before .before .before .entry-at2 .result .states) (let above = c .before .if1 .taken in omega arith), c .new .ensures) refl
+returns-2 c = simp (← (c .before .before .before .before .before .before .check-named .ensures ∙ ap₂ (namedFault (c .before .before .before .before .before .before .before .before .before .before .args .file .now) (c .before .before .before .before .before .before .before .before .before .before .args .k)) (c .before .before .before .before .before .before .before .before .demand .ensures) (c .before .before .before .before .before .before .before .demand2 .ensures)), c .before .before .before .before .enum-told .given .1, ← c .before .before .before .states-of .ensures, ← c .before .before .states-of2 .ensures, lt-ltb 64 (c .before .before .before .states-of .result * c .before .before .states-of2 .result) (let above = c .before .if1 .taken in omega arith), c .new .ensures) refl
 
 returns-3 : tie.Need-returns-3
 unfolding joinFault _then_ fault
-returns-3 c = simp (← (c .before .before .before .before .before .before .before .check-named .ensures ∙ ap₂ (namedFault (c .before .before .before .before .before .before .before .before .before .before .before .args .file .now) (c .before .before .before .before .before .before .before .before .before .before .before .args .k)) (c .before .before .before .before .before .before .before .before .before .demand .ensures) (c .before .before .before .before .before .before .before .before .demand2 .ensures)), c .before .before .before .before .before .enum-told .given .1, ← c .before .before .before .before .entry-at .ensures, ← c .before .before .entry-at2 .ensures, le-ltb 64 (c .before .before .before .before .entry-at .result .states * c .before .before .entry-at2 .result .states) (let few = c .if1 .left in omega arith)) refl
+returns-3 c = simp (← (c .before .before .before .before .before .check-named .ensures ∙ ap₂ (namedFault (c .before .before .before .before .before .before .before .before .before .args .file .now) (c .before .before .before .before .before .before .before .before .before .args .k)) (c .before .before .before .before .before .before .before .demand .ensures) (c .before .before .before .before .before .before .demand2 .ensures)), c .before .before .before .enum-told .given .1, ← c .before .before .states-of .ensures, ← c .before .states-of2 .ensures, le-ltb 64 (c .before .before .states-of .result * c .before .states-of2 .result) (let few = c .if1 .left in omega arith)) refl
 
 pub check-join-spec : {M : Type 1} → statement M
 check-join-spec =
@@ -66,9 +66,9 @@ check-join-spec =
     enum-known-refusal
     returns
     enum-told
-    entry-at-requires
+    states-of-requires
     cast-states
-    entry-at-requires-2
+    states-of-requires-2
     cast-states-2
     mul-states
     new-requires

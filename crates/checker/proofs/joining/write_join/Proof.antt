@@ -1,34 +1,52 @@
--- `checker::joining::write_join` meets its contract. What writing comes to is the answer.
+-- `checker::joining::write_join` meets its contract. The engine's answer decides.
 use native.Mathlib.Omega.{arith}
-use Rattle.checker.proofs.PairLaws.{body-within}
-use Rattle.checker.proofs.JoinLaws.{first-at, second-at, product-few, product-is, two-demands, rows-found, write-answers}
+use Rattle.checker.proofs.PairLaws.{table-loads}
+use Rattle.checker.proofs.JoinLaws.{first-at, second-at, product-is, product-few, two-demands, rows-found, write-answers}
 use borrow.Author.Needs.{needs}
 use Rattle.checker.proofs.joining.write_join.Statement.{statement}
 use Rattle.checker.proofs.joining.write_join.Tie as tie
 
-entry-at-requires : tie.Need-entry-at-requires
-entry-at-requires c κs = search needs
+slice-aggregate-load-table : tie.Need-slice-aggregate-load-table
+slice-aggregate-load-table c = search needs
 
-entry-at-requires-2 : tie.Need-entry-at-requires-2
-entry-at-requires-2 c κs = search needs
+load-table-requires : tie.Need-load-table-requires
+load-table-requires c κs = table-loads _ _ _ (first-at _ _ _ (c .before .before .before .pre)) _ (omega arith)
 
-cast-states : tie.Need-cast-states
-cast-states c = search needs
+slice-aggregate-load-table-2 : tie.Need-slice-aggregate-load-table-2
+slice-aggregate-load-table-2 c = search needs
 
-cast-states-2 : tie.Need-cast-states-2
-cast-states-2 c = search needs
+load-table-requires-2 : tie.Need-load-table-requires-2
+load-table-requires-2 c κs = table-loads _ _ _ (second-at _ _ _ (c .before .before .before .before .before .before .pre)) _ (omega arith)
 
-mul-states : tie.Need-mul-states
-mul-states c = let few = product-few _ _ _ (c .before .before .before .before .before .before .pre) in let same = product-is _ _ _ (c .before .before .before .before .before .before .pre) _ (c .before .before .before .entry-at .ensures) _ (c .before .before .entry-at2 .ensures) in omega arith
+slice-aggregate-states : tie.Need-slice-aggregate-states
+slice-aggregate-states c = search needs
 
-entry-body-requires : tie.Need-entry-body-requires
-entry-body-requires c κs = body-within _ _ _ (first-at _ _ _ (c .before .before .before .before .before .before .pre)) _ (c .before .before .before .entry-at .ensures)
+states-requires : tie.Need-states-requires
+states-requires c κs = search needs
 
-entry-body-requires-2 : tie.Need-entry-body-requires-2
-entry-body-requires-2 c κs = body-within _ _ _ (second-at _ _ _ (c .before .before .before .before .before .before .before .pre)) _ (c .before .before .before .entry-at2 .ensures)
+cast-pairs : tie.Need-cast-pairs
+cast-pairs c = search needs
+
+slice-aggregate-states-2 : tie.Need-slice-aggregate-states-2
+slice-aggregate-states-2 c = search needs
+
+states-requires-2 : tie.Need-states-requires-2
+states-requires-2 c κs = search needs
+
+cast-pairs-2 : tie.Need-cast-pairs-2
+cast-pairs-2 c = search needs
+
+mul-pairs : tie.Need-mul-pairs
+mul-pairs c = let few = product-few _ _ _ (c .before .before .before .before .before .before .before .before .before .before .before .before .pre) _ (c .before .before .before .before .before .before .before .before .load-table .ensures .0) _ (c .before .before .before .before .before .load-table2 .ensures .0) (c .before .before .states .ensures) (c .states2 .ensures) in omega arith
+
+slice-aggregate-write : tie.Need-slice-aggregate-write
+slice-aggregate-write c = search needs
+
+slice-aggregate-write-2 : tie.Need-slice-aggregate-write-2
+slice-aggregate-write-2 c = search needs
 
 write-requires : tie.Need-write-requires
-write-requires c κs = two-demands _ _ _ (c .before .before .before .before .before .before .before .before .before .pre) _ (c .before .before .before .before .before .before .entry-at .ensures) _ (c .before .before .before .before .before .entry-at2 .ensures) _ (c .before .before .entry-body .ensures .bytes) _ (c .before .entry-body2 .ensures .bytes)
+write-requires c κs = two-demands _ _ _ (c .before .before .before .before .before .before .before .before .before .before .before .before .before .before .before .pre) _ (c .before .before .before .before .before .before .before .before .before .before .before .load-table .ensures .0) _ (c .before .before .before .before .before .before .before .before .load-table2 .ensures .0) (c .before .before .before .before .before .before .before .before .before .before .before .load-table .ensures .1 .0) (c .before .before .before .before .before .before .before .before .load-table2 .ensures .1 .0)
 
 enum-told : tie.Need-enum-told
 enum-told c = search needs
@@ -49,31 +67,37 @@ same-length : tie.Need-same-length
 same-length c = search needs
 
 returns : tie.Need-returns
-returns c = rw (c .new .ensures) (write-answers _ _ _ (c .before .before .before .before .before .before .before .before .before .before .before .before .before .before .before .pre) _ (product-is _ _ _ (c .before .before .before .before .before .before .before .before .before .before .before .before .before .before .before .pre) _ (c .before .before .before .before .before .before .before .before .before .before .before .before .entry-at .ensures) _ (c .before .before .before .before .before .before .before .before .before .before .before .entry-at2 .ensures)) _ _ _ (rows-found _ _ _ (c .before .before .before .before .before .before .before .before .before .before .before .before .before .before .before .pre) _ (c .before .before .before .before .before .before .before .before .before .before .before .before .entry-at .ensures) _ (c .before .before .before .before .before .before .before .before .before .before .before .entry-at2 .ensures) _ (c .before .before .before .before .before .before .before .before .entry-body .ensures .bytes) _ (c .before .before .before .before .before .before .before .entry-body2 .ensures .bytes)) _ (c .before .before .before .before .before .write .ensures .0) (c .before .before .before .before .before .write .ensures .1) (c .before .enum-told .given .1))
+returns c = rw (c .new .ensures) (write-answers _ _ _ (c .before .before .before .before .before .before .before .before .before .before .before .before .before .before .before .before .before .before .before .before .before .pre) _ (product-is _ _ _ (c .before .before .before .before .before .before .before .before .before .before .before .before .before .before .before .before .before .before .before .before .before .pre) _ (c .before .before .before .before .before .before .before .before .before .before .before .before .before .before .before .before .before .load-table .ensures .0) _ (c .before .before .before .before .before .before .before .before .before .before .before .before .before .before .load-table2 .ensures .0) (c .before .before .before .before .before .before .before .before .before .before .before .states .ensures) (c .before .before .before .before .before .before .before .before .before .states2 .ensures)) _ _ _ (rows-found _ _ _ (c .before .before .before .before .before .before .before .before .before .before .before .before .before .before .before .before .before .before .before .before .before .pre) _ (c .before .before .before .before .before .before .before .before .before .before .before .before .before .before .before .before .before .load-table .ensures .0) _ (c .before .before .before .before .before .before .before .before .before .before .before .before .before .before .load-table2 .ensures .0)) _ (c .before .before .before .before .before .write .ensures .0) (c .before .before .before .before .before .write .ensures .1) (c .before .enum-told .given .1))
 
 same-length-2 : tie.Need-same-length-2
 same-length-2 c = search needs
 
 returns-2 : tie.Need-returns-2
-returns-2 c = rw (c .new2 .ensures) (write-answers _ _ _ (c .before .before .before .before .before .before .before .before .before .before .before .before .before .before .before .pre) _ (product-is _ _ _ (c .before .before .before .before .before .before .before .before .before .before .before .before .before .before .before .pre) _ (c .before .before .before .before .before .before .before .before .before .before .before .before .entry-at .ensures) _ (c .before .before .before .before .before .before .before .before .before .before .before .entry-at2 .ensures)) _ _ _ (rows-found _ _ _ (c .before .before .before .before .before .before .before .before .before .before .before .before .before .before .before .pre) _ (c .before .before .before .before .before .before .before .before .before .before .before .before .entry-at .ensures) _ (c .before .before .before .before .before .before .before .before .before .before .before .entry-at2 .ensures) _ (c .before .before .before .before .before .before .before .before .entry-body .ensures .bytes) _ (c .before .before .before .before .before .before .before .entry-body2 .ensures .bytes)) _ (c .before .before .before .before .before .write .ensures .0) (c .before .before .before .before .before .write .ensures .1) (c .before .enum-told2 .given .1))
+returns-2 c = rw (c .new2 .ensures) (write-answers _ _ _ (c .before .before .before .before .before .before .before .before .before .before .before .before .before .before .before .before .before .before .before .before .before .pre) _ (product-is _ _ _ (c .before .before .before .before .before .before .before .before .before .before .before .before .before .before .before .before .before .before .before .before .before .pre) _ (c .before .before .before .before .before .before .before .before .before .before .before .before .before .before .before .before .before .load-table .ensures .0) _ (c .before .before .before .before .before .before .before .before .before .before .before .before .before .before .load-table2 .ensures .0) (c .before .before .before .before .before .before .before .before .before .before .before .states .ensures) (c .before .before .before .before .before .before .before .before .before .states2 .ensures)) _ _ _ (rows-found _ _ _ (c .before .before .before .before .before .before .before .before .before .before .before .before .before .before .before .before .before .before .before .before .before .pre) _ (c .before .before .before .before .before .before .before .before .before .before .before .before .before .before .before .before .before .load-table .ensures .0) _ (c .before .before .before .before .before .before .before .before .before .before .before .before .before .before .load-table2 .ensures .0)) _ (c .before .before .before .before .before .write .ensures .0) (c .before .before .before .before .before .write .ensures .1) (c .before .enum-told2 .given .1))
 
 same-length-3 : tie.Need-same-length-3
 same-length-3 c = search needs
 
 returns-3 : tie.Need-returns-3
-returns-3 c = write-answers _ _ _ (c .before .before .before .before .before .before .before .before .before .before .before .before .before .before .before .pre) _ (product-is _ _ _ (c .before .before .before .before .before .before .before .before .before .before .before .before .before .before .before .pre) _ (c .before .before .before .before .before .before .before .before .before .before .before .before .entry-at .ensures) _ (c .before .before .before .before .before .before .before .before .before .before .before .entry-at2 .ensures)) _ _ _ (rows-found _ _ _ (c .before .before .before .before .before .before .before .before .before .before .before .before .before .before .before .pre) _ (c .before .before .before .before .before .before .before .before .before .before .before .before .entry-at .ensures) _ (c .before .before .before .before .before .before .before .before .before .before .before .entry-at2 .ensures) _ (c .before .before .before .before .before .before .before .before .entry-body .ensures .bytes) _ (c .before .before .before .before .before .before .before .entry-body2 .ensures .bytes)) _ (c .before .before .before .before .before .write .ensures .0) (c .before .before .before .before .before .write .ensures .1) (c .before .rows .given .1)
+returns-3 c = write-answers _ _ _ (c .before .before .before .before .before .before .before .before .before .before .before .before .before .before .before .before .before .before .before .before .before .pre) _ (product-is _ _ _ (c .before .before .before .before .before .before .before .before .before .before .before .before .before .before .before .before .before .before .before .before .before .pre) _ (c .before .before .before .before .before .before .before .before .before .before .before .before .before .before .before .before .before .load-table .ensures .0) _ (c .before .before .before .before .before .before .before .before .before .before .before .before .before .before .load-table2 .ensures .0) (c .before .before .before .before .before .before .before .before .before .before .before .states .ensures) (c .before .before .before .before .before .before .before .before .before .states2 .ensures)) _ _ _ (rows-found _ _ _ (c .before .before .before .before .before .before .before .before .before .before .before .before .before .before .before .before .before .before .before .before .before .pre) _ (c .before .before .before .before .before .before .before .before .before .before .before .before .before .before .before .before .before .load-table .ensures .0) _ (c .before .before .before .before .before .before .before .before .before .before .before .before .before .before .load-table2 .ensures .0)) _ (c .before .before .before .before .before .write .ensures .0) (c .before .before .before .before .before .write .ensures .1) (c .before .rows .given .1)
 
 pub write-join-spec : {M : Type 1} → statement M
 write-join-spec =
     tie.close
     (tie.spec
-    entry-at-requires
-    entry-at-requires-2
-    cast-states
-    cast-states-2
-    mul-states
-    entry-body-requires
-    entry-body-requires-2
+    slice-aggregate-load-table
+    load-table-requires
+    slice-aggregate-load-table-2
+    load-table-requires-2
+    slice-aggregate-states
+    states-requires
+    cast-pairs
+    slice-aggregate-states-2
+    states-requires-2
+    cast-pairs-2
+    mul-pairs
+    slice-aggregate-write
+    slice-aggregate-write-2
     write-requires
     enum-told
     new-requires

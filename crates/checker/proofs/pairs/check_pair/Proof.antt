@@ -27,11 +27,8 @@ returns c = rw (← (c .before .before .before .check-named .ensures ∙ ap₂ (
 enum-told : tie.Need-enum-told
 enum-told c = search needs
 
-entry-at-requires : tie.Need-entry-at-requires
-entry-at-requires c κs = search needs
-
-entry-at-requires-2 : tie.Need-entry-at-requires-2
-entry-at-requires-2 c κs = search needs
+states-of-requires : tie.Need-states-of-requires
+states-of-requires c κs = search needs
 
 cast-if1 : tie.Need-cast-if1
 cast-if1 c = search needs
@@ -41,7 +38,10 @@ new-requires c κs = search needs
 
 returns-2 : tie.Need-returns-2
 unfolding pairFault _then_ fault
-returns-2 c = simp (← (c .before .before .before .before .before .before .before .before .check-named .ensures ∙ ap₂ (namedFault (c .before .before .before .before .before .before .before .before .before .before .before .before .args .file .now) (c .before .before .before .before .before .before .before .before .before .before .before .before .args .k)) (c .before .before .before .before .before .before .before .before .before .before .demand .ensures) (c .before .before .before .before .before .before .before .before .before .supply .ensures)), c .before .before .before .before .before .before .enum-told .given .1, ← c .before .before .before .before .before .entry-at .ensures, ← c .before .before .before .before .entry-at2 .ensures, le-leb _ _ (c .before .if1 .taken), c .new .ensures) refl
+returns-2 c = simp (← (c .before .before .before .before .before .before .check-named .ensures ∙ ap₂ (namedFault (c .before .before .before .before .before .before .before .before .before .before .args .file .now) (c .before .before .before .before .before .before .before .before .before .before .args .k)) (c .before .before .before .before .before .before .before .before .demand .ensures) (c .before .before .before .before .before .before .before .supply .ensures)), c .before .before .before .before .enum-told .given .1, ← c .before .before .before .states-of .ensures, le-leb _ _ (c .before .if1 .taken), c .new .ensures) refl
+
+states-of-requires-2 : tie.Need-states-of-requires-2
+states-of-requires-2 c κs = search needs
 
 cast-if2 : tie.Need-cast-if2
 cast-if2 c = search needs
@@ -51,11 +51,11 @@ new-requires-2 c κs = search needs
 
 returns-3 : tie.Need-returns-3
 unfolding pairFault _then_ fault
-returns-3 c = simp (← (c .before .before .before .before .before .before .before .before .before .before .before .check-named .ensures ∙ ap₂ (namedFault (c .before .before .before .before .before .before .before .before .before .before .before .before .before .before .before .args .file .now) (c .before .before .before .before .before .before .before .before .before .before .before .before .before .before .before .args .k)) (c .before .before .before .before .before .before .before .before .before .before .before .before .before .demand .ensures) (c .before .before .before .before .before .before .before .before .before .before .before .before .supply .ensures)), c .before .before .before .before .before .before .before .before .before .enum-told .given .1, ← c .before .before .before .before .before .before .before .before .entry-at .ensures, ← c .before .before .before .before .before .before .before .entry-at2 .ensures, lt-leb _ _ (c .before .before .before .before .if1 .left), le-leb _ _ (c .before .if2 .taken), c .new2 .ensures) refl
+returns-3 c = simp (← (c .before .before .before .before .before .before .before .before .before .check-named .ensures ∙ ap₂ (namedFault (c .before .before .before .before .before .before .before .before .before .before .before .before .before .args .file .now) (c .before .before .before .before .before .before .before .before .before .before .before .before .before .args .k)) (c .before .before .before .before .before .before .before .before .before .before .before .demand .ensures) (c .before .before .before .before .before .before .before .before .before .before .supply .ensures)), c .before .before .before .before .before .before .before .enum-told .given .1, ← c .before .before .before .before .before .before .states-of .ensures, ← c .before .before .before .states-of2 .ensures, lt-leb _ _ (c .before .before .before .before .if1 .left), le-leb _ _ (c .before .if2 .taken), c .new2 .ensures) refl
 
 returns-4 : tie.Need-returns-4
 unfolding pairFault _then_ fault
-returns-4 c = simp (← (c .before .before .before .before .before .before .before .before .before .before .check-named .ensures ∙ ap₂ (namedFault (c .before .before .before .before .before .before .before .before .before .before .before .before .before .before .args .file .now) (c .before .before .before .before .before .before .before .before .before .before .before .before .before .before .args .k)) (c .before .before .before .before .before .before .before .before .before .before .before .before .demand .ensures) (c .before .before .before .before .before .before .before .before .before .before .before .supply .ensures)), c .before .before .before .before .before .before .before .before .enum-told .given .1, ← c .before .before .before .before .before .before .before .entry-at .ensures, ← c .before .before .before .before .before .before .entry-at2 .ensures, lt-leb _ _ (c .before .before .before .if1 .left), lt-leb _ _ (c .if2 .left)) refl
+returns-4 c = simp (← (c .before .before .before .before .before .before .before .before .check-named .ensures ∙ ap₂ (namedFault (c .before .before .before .before .before .before .before .before .before .before .before .before .args .file .now) (c .before .before .before .before .before .before .before .before .before .before .before .before .args .k)) (c .before .before .before .before .before .before .before .before .before .before .demand .ensures) (c .before .before .before .before .before .before .before .before .before .supply .ensures)), c .before .before .before .before .before .before .enum-told .given .1, ← c .before .before .before .before .before .states-of .ensures, ← c .before .before .states-of2 .ensures, lt-leb _ _ (c .before .before .before .if1 .left), lt-leb _ _ (c .if2 .left)) refl
 
 pub check-pair-spec : {M : Type 1} → statement M
 check-pair-spec =
@@ -67,11 +67,11 @@ check-pair-spec =
     enum-known-refusal
     returns
     enum-told
-    entry-at-requires
-    entry-at-requires-2
+    states-of-requires
     cast-if1
     new-requires
     returns-2
+    states-of-requires-2
     cast-if2
     new-requires-2
     returns-3

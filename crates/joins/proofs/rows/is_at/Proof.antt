@@ -1,7 +1,7 @@
 -- `joins::rows::is_at` meets its contract. A test of two rows.
 use mathlib.Core.Path.{refl}
 use borrow.Author.Tests.{lt-ltb, le-ltb}
-use Rattle.joins.specs.Rows.{standsAt}
+use Rattle.joins.specs.Building.{standsAt}
 use borrow.Author.Needs.{needs}
 use Rattle.joins.proofs.rows.is_at.Statement.{statement}
 use Rattle.joins.proofs.rows.is_at.Tie as tie

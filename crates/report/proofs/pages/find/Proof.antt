@@ -1,7 +1,7 @@
 -- `report::pages::find` meets its contract. Nothing turns back a call about a pair that was asked about, with room for the most pairs.
 use mathlib.Core.Path.{_∙_}
 use native.Mathlib.Omega.{arith}
-use Rattle.checker.specs.Answers.{counted, decided}
+use Rattle.checker.specs.Calls.{counted, decided}
 use Rattle.report.proofs.DecisionLaws.{decide-refused, decide-answered, run-refused, run-counted, run-steps, found-is}
 use borrow.Author.Needs.{needs}
 use Rattle.report.proofs.pages.find.Statement.{statement}

@@ -17,8 +17,8 @@ put-refused-requires c κs = let room = c .before .before .before .before .befor
 enum-known-page-2 : tie.Need-enum-known-page-2
 enum-known-page-2 c = search needs
 
-put-answers-requires : tie.Need-put-answers-requires
-put-answers-requires c κs = rw (c .before .before .page2 .given .1) at (c .before .before .before .before .before .before .before .pre)
+put-outcome-requires : tie.Need-put-outcome-requires
+put-outcome-requires c κs = rw (c .before .before .page2 .given .1) at (c .before .before .before .before .before .before .before .pre)
 
 same-length : tie.Need-same-length
 same-length c = search needs
@@ -30,7 +30,7 @@ same-length-2 : tie.Need-same-length-2
 same-length-2 c = search needs
 
 returns-2 : tie.Need-returns-2
-returns-2 c = rw (c .before .before .before .before .before .page2 .given .1) (c .before .before .put-answers .ensures)
+returns-2 c = rw (c .before .before .before .before .before .page2 .given .1) (c .before .before .put-outcome .ensures)
 
 pub put-page-spec : {M : Type 1} → statement M
 put-page-spec =
@@ -39,7 +39,7 @@ put-page-spec =
     enum-known-page
     put-refused-requires
     enum-known-page-2
-    put-answers-requires
+    put-outcome-requires
     same-length
     returns
     same-length-2

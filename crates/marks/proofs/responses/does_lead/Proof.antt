@@ -1,0 +1,19 @@
+-- `marks::responses::does_lead` meets its contract.
+use mathlib.Core.Path.{_∙_}
+use Rattle.marks.specs.Responses.{leads}
+use borrow.Author.Needs.{needs}
+use Rattle.marks.proofs.responses.does_lead.Statement.{statement}
+use Rattle.marks.proofs.responses.does_lead.Tie as tie
+
+mark-of-requires : tie.Need-mark-of-requires
+mark-of-requires c κs = search needs
+
+is-wanted-requires : tie.Need-is-wanted-requires
+is-wanted-requires c κs = search needs
+
+returns : tie.Need-returns
+unfolding leads
+returns c = rw (← c .before .mark-of .ensures) (c .is-wanted .ensures)
+
+pub does-lead-spec : {M : Type 1} → statement M
+does-lead-spec = tie.close (tie.spec mark-of-requires is-wanted-requires returns)

@@ -1,0 +1,16 @@
+-- `marks::responses::does_some_lead` meets its contract. The position that is found is below the end exactly if some move passes.
+use Rattle.marks.proofs.PairLaws.{some-below}
+use borrow.Author.Needs.{needs}
+use Rattle.marks.proofs.responses.does_some_lead.Statement.{statement}
+use Rattle.marks.proofs.responses.does_some_lead.Tie as tie
+
+-- `marks::responses::does_some_lead` meets its contract. The first position is below the end exactly if some move passes.
+
+first-response-requires : tie.Need-first-response-requires
+first-response-requires c κs = search needs
+
+returns : tie.Need-returns
+returns c = some-below _ _ (c .before .first-response .ensures)
+
+pub does-some-lead-spec : {M : Type 1} → statement M
+does-some-lead-spec = tie.close (tie.spec first-response-requires returns)

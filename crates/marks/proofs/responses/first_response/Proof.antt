@@ -1,0 +1,60 @@
+-- `marks::responses::first_response` meets its contract. The invariant: no move before p passes.
+use Prim.Native.Nat.{_-_, _≤_, max}
+use mathlib.Core.Path.{refl}
+use mathlib.Core.Logic.{⊎-elim}
+use native.Mathlib.Omega.{arith}
+use Rattle.machines.proofs.RangeLaws.{NoneTo, none-start, none-next, found-at, ended-at}
+use Rattle.marks.specs.Responses.{responds}
+use Rattle.rules.proofs.Booleans.{and-none}
+use borrow.Author.Needs.{needs}
+use Rattle.marks.proofs.responses.first_response.Statement.{statement}
+use Rattle.marks.proofs.responses.first_response.Tie as tie
+
+abbrev Inv-loop : tie.InvT-loop
+Inv-loop demand task supply offer wanted marks end p₀ p = (p ≤ max p₀ end) × NoneTo (responds demand task supply offer wanted marks) demand p₀ p
+
+abbrev μ-loop : tie.MeasureT-loop
+μ-loop demand task supply offer wanted marks end p₀ p = end - p
+
+loop-holds : tie.Need-loop-holds Inv-loop μ-loop
+loop-holds c = (omega arith, none-start)
+
+move-at-requires : tie.Need-move-at-requires Inv-loop μ-loop
+move-at-requires c κs = search needs
+
+does-lead-requires : tie.Need-does-lead-requires Inv-loop μ-loop
+does-lead-requires c κs = search needs
+
+is-maximal-requires : tie.Need-is-maximal-requires Inv-loop μ-loop
+is-maximal-requires c κs = search needs
+
+returns : tie.Need-returns Inv-loop μ-loop
+returns c = found-at _ (c .before .before .before .before .before .before .loop .inv .1) (c .before .before .before .before .before .loop-test .taken) (c .before .before .before .before .move-at .ensures) (rw (← c .before .is-maximal .ensures, c .if2 .taken, ← c .before .before .before .does-lead .ensures, c .before .before .if1 .taken) refl)
+
+add-p : tie.Need-add-p Inv-loop μ-loop
+add-p c = search needs
+
+loop-less : tie.Need-loop-less Inv-loop μ-loop
+loop-less c = search needs
+
+loop-again : tie.Need-loop-again Inv-loop μ-loop
+loop-again c = (omega arith, ⊎-elim (λ w. none-next (c .before .before .before .before .loop .inv .1) (c .before .before .move-at .ensures) refl (rw (← w .1 .ensures, w .2 .left) refl)) (λ w. none-next (c .before .before .before .before .loop .inv .1) (c .before .before .move-at .ensures) refl (rw (← c .before .does-lead .ensures, w .left, and-none) refl)) (c .if1 .came))
+
+returns-2 : tie.Need-returns-2 Inv-loop μ-loop
+returns-2 c = ended-at _ (c .before .loop .inv .1) (omega arith) (omega arith)
+
+pub first-response-spec : {M : Type 1} → statement M
+first-response-spec =
+    tie.close
+    (tie.spec
+    Inv-loop
+    μ-loop
+    loop-holds
+    move-at-requires
+    does-lead-requires
+    is-maximal-requires
+    returns
+    add-p
+    loop-less
+    loop-again
+    returns-2)
