@@ -1,9 +1,7 @@
 -- Laws of Decide: the answer and the slice, by what the checks find. Relies on the laws of questions about a pair and of marks.
-use Prim.Native.Nat.{ℕ, _+_, _*_, _≤_, _<_}
+use Prim.Native.Nat.{ℕ, _*_, _≤_, _<_}
 use mathlib.Core.Path.{_≡_, refl, sym, ap, ap₂, _∙_}
 use mathlib.Core.List.{List, [], _∷_}
-use native.Mathlib.Omega.{arith}
-use lib.Arith.{digits-lt}
 use lib.Dec.{ltb, eqb}
 use lib.ListN.{length}
 use borrow.Author.Tests.{lt-ltb, le-ltb, ltb-false}
@@ -13,8 +11,6 @@ use Rattle.rules.specs.Below.{one}
 use Rattle.rules.specs.Slices.{overwrite}
 use Rattle.rules.specs.Machines.{Machine}
 use Rattle.rules.specs.Rounds.{mark, markAt, marks}
-use Rattle.rules.proofs.SliceLaws.{overwrite-entry}
-use Rattle.rules.proofs.MarkLaws.{marks-entry, length-marks}
 use Rattle.tables.specs.declared.Refusal.{Refusal}
 use Rattle.tables.specs.declared.Checked.{Checked}
 use Rattle.tables.specs.declared.Checked.the-variants.{Passed, Fault}
@@ -28,21 +24,12 @@ use Rattle.tables.proofs.CheckLaws.{fault-passed, then-left, then-right}
 use Rattle.tables.proofs.AcceptedLaws.{tables-passed, refused-fault}
 use Rattle.machines.specs.Memory.{statesIn, machineIn}
 use Rattle.marks.specs.declared.Summary.{Summary}
-use Rattle.marks.specs.Responses.{HasMarks}
 use Rattle.marks.specs.InPlace.{summaryOf}
+use Rattle.marks.proofs.RoundLaws.{has-marks}
 use Rattle.checker.specs.declared.Question.{Question}
 use Rattle.checker.specs.Pairs.{pairFault, PairAccepted, demandOf, supplyOf, pairOf, PairLoaded}
 use Rattle.checker.specs.Decide.{modeOf, decideFault, decideChecks, decideAnswer, decideSlice}
 use Rattle.checker.proofs.PairLaws.{pair-asked, asked-demand, asked-supply}
-
--- a mark that is written stands at its entry
-marked-entry : (mode : Mode) (D S : Machine) (l : List ℕ) (t s : ℕ) → t < D .n → s < S .n → markAt (S .n) (overwrite (marks mode D S) l) t s ≡ mark mode D S t s
-marked-entry mode D S l t s p q =
-    overwrite-entry (marks mode D S) l (t * S .n + s) (omega (arith, digits-lt p q, length-marks mode D S)) ∙ marks-entry mode D S t s p q
-
--- so the slice has the marks
-pub has-marks : (mode : Mode) (D S : Machine) (entry : List ℕ) {exit : List ℕ} → exit ≡ overwrite (marks mode D S) entry → HasMarks mode D S exit
-has-marks mode D S entry e = record { each = λ t s l k. ap (λ (x : List ℕ). markAt (S .n) x t s) e ∙ marked-entry mode D S entry t s l k }
 
 module _ (s : List ℕ) (q : Question) (mode : ℕ) where
   -- by what opening finds, and by a number before 14
@@ -102,10 +89,10 @@ module _ (s : List ℕ) (q : Question) (mode : ℕ) where
         start-mark e f =
             f ∙ ap (λ (z : Pair). markAt (statesIn supply) exit (z .demand) (z .supply)) e
             ∙ ap₂ (λ (n : ℕ) (l : List ℕ). markAt n l (q .demand .state) (q .supply .state)) (ap (λ (M : Machine). M .n) (x .supply-is)) marks-written
-            ∙ marked-entry (modeOf mode) (demandOf s q) (supplyOf s q) entry (q .demand .state) (q .supply .state) (asked-demand s q a .state) (asked-supply s q a .state)
+            ∙ has-marks (modeOf mode) (demandOf s q) (supplyOf s q) entry refl .each (q .demand .state) (q .supply .state) (asked-demand s q a .state) (asked-supply s q a .state)
 
         pub carried-out : {p : Pair} {v : ℕ} → demandOf s q .n * supplyOf s q .n ≤ length entry → p ≡ pairOf q → v ≡ markAt (statesIn supply) exit (p .demand) (p .supply)
-            → (sum : Summary) → sum ≡ summaryOf m (machineIn demand) (machineIn supply)
+            → (sum : Summary) → sum ≡ summaryOf m demand supply
             → (carriedOut (one (eqb v 0) ∷ sum .kept ∷ sum .rounds ∷ []) ≡ decideAnswer s q mode (length entry)) × (exit ≡ decideSlice s q mode entry)
         unfolding decideAnswer decideSlice
         carried-out room e f sum told = (

@@ -26,6 +26,7 @@ use Rattle.tables.specs.declared.Checked.{Checked}
 use Rattle.tables.specs.declared.Checked.the-variants.{Passed, Fault}
 use Rattle.tables.specs.Answers.{Answer, answer, carriedOut}
 use Rattle.marks.specs.Responses.{HasMarks}
+use Rattle.marks.proofs.RoundLaws.{has-marks}
 use Rattle.checker.specs.declared.Question.{Question}
 use Rattle.checker.specs.declared.Decided.{Decided}
 use Rattle.checker.specs.Calls.{decided, sliceAfter}
@@ -33,7 +34,7 @@ use Rattle.checker.specs.Pairs.{PairAccepted, demandOf, supplyOf}
 use Rattle.checker.specs.Decide.{modeOf, decideChecks, decideAnswer, decideSlice}
 use Rattle.checker.specs.Demands.{KeptIn, MarksDemand, SecondDemand, ThirdDemand, ThirdDemandAll, DecideDemands}
 use Rattle.checker.proofs.PairLaws.{asked-demand, asked-supply, table-at-sound}
-use Rattle.checker.proofs.DecideLaws.{has-marks, decide-asked}
+use Rattle.checker.proofs.DecideLaws.{decide-asked}
 
 -- ---- marks that are written
 

@@ -1,20 +1,20 @@
 -- Laws of Join: the answer and the bytes, by what the checks find; and what is written is a body of the joined table. Relies on the laws of joining,
 -- of rows in body form, and of tables that a call names.
-use Prim.Native.Nat.{ℕ, suc, _*_, _/_, _≤_, _<_}
+use Prim.Native.Nat.{ℕ, _*_, _≤_, _<_}
 use mathlib.Core.Path.{_≡_, refl, sym, ap, ap₂, _∙_, subst, subst₂}
 use mathlib.Core.Bool.{Bool, true, false, cond}
-use mathlib.Core.List.{List, [], _∷_, _++_, List·Memᴰ}
+use mathlib.Core.List.{List, [], _∷_, List·Memᴰ}
 use mathlib.Core.Logic.{_↔_}
 use native.Mathlib.Omega.{arith}
 use lib.Dec.{ltb}
 use lib.ListN.{length, getD, take, drop}
 use lib.Arith.{digits-lt}
 use lib.Seq.{take-append-seam}
-use borrow.Author.Tests.{lt-ltb, le-ltb, ltb-false}
+use borrow.Author.Tests.{ltb-false}
 use Rattle.rules.specs.declared.Row.{Row}
 use Rattle.rules.specs.Slices.{overwrite}
-use Rattle.rules.specs.Machines.{Table, Machine, Sound, machine, widen}
-use Rattle.rules.specs.Actions.{Action, tasks, _∥_}
+use Rattle.rules.specs.Machines.{Machine, Sound, machine, widen}
+use Rattle.rules.specs.Actions.{tasks, _∥_}
 use Rattle.rules.specs.Join.{joinState, join, IsJoinRow}
 use Rattle.rules.proofs.MachineLaws.{fin-moves}
 use Rattle.rules.proofs.JoinLaws.{join-rises, join-rows, join-from, join-target, join-parallel}
@@ -26,7 +26,7 @@ use Rattle.tables.specs.declared.Opened.the-variants.{Tables, Refused}
 use Rattle.tables.specs.Checks.{refuse, fault, _then_}
 use Rattle.tables.specs.Answers.{Answer, turnedBack, carriedOut, opened}
 use Rattle.tables.specs.File.{tablesOf, bodyBytes}
-use Rattle.tables.specs.Open.{openOf, fileFault}
+use Rattle.tables.specs.Open.{openOf}
 use Rattle.tables.specs.Accepted.{TableBody, Accepted}
 use Rattle.tables.specs.Tables.{rowsOf, tableOf, machineOf}
 use Rattle.tables.proofs.CheckLaws.{fault-passed, then-left, then-right}
@@ -93,15 +93,12 @@ module _ (s : List ℕ) (i j : ℕ) where
       second-is : machineIn two ≡ machineOf s j
       second-is = loaded-plain s j two f
 
-      -- n and m are what they say of their states
-      pub product-is : {n m : ℕ} → n ≡ statesIn one → m ≡ statesIn two → n * m ≡ tableOf s i .n * tableOf s j .n
-      product-is g h = ap₂ (λ (x y : ℕ). x * y) (g ∙ ap (λ (M : Machine). M .n) first-is) (h ∙ ap (λ (M : Machine). M .n) second-is)
-
-      pub product-few : {n m : ℕ} → n ≡ statesIn one → m ≡ statesIn two → n * m ≤ 64
-      product-few g h = rw (product-is g h) states-few
+      -- as many pairs as they have
+      pub product-is : {pairs : ℕ} → pairs ≡ statesIn one * statesIn two → pairs ≡ tableOf s i .n * tableOf s j .n
+      product-is g = g ∙ ap₂ (λ (D E : Machine). D .n * E .n) first-is second-is
 
       pub two-demands : InMemory one → InMemory two → TwoDemands one two
-      two-demands x y = record { first-machine = x; second-machine = y; few = product-few refl refl }
+      two-demands x y = record { first-machine = x; second-machine = y; few = rw (product-is refl) states-few }
 
       -- their rows are those of the joined table
       pub rows-found : rowsIn one two ≡ joinOf s i j .rows

@@ -1,7 +1,7 @@
 -- Laws of Moves of a pair: the answer and the slice, by what the checks find; and the moves written are those of PADS. Relies on
 -- the laws of actions and of questions about a pair.
 use Prim.Native.Nat.{ℕ, _*_, _/_, _≤_, _<_}
-use mathlib.Core.Path.{_≡_, refl, sym, ap, ap₂, _∙_}
+use mathlib.Core.Path.{_≡_, refl, ap, ap₂, _∙_}
 use mathlib.Core.List.{List, [], _∷_, map, flatMap, List·Memᴰ, Memᴰ·cast}
 use mathlib.Core.Logic.{_↔_}
 use native.Mathlib.Omega.{arith}
@@ -12,14 +12,14 @@ use Rattle.rules.specs.Machines.{Machine}
 use Rattle.rules.specs.Slices.{overwrite}
 use Rattle.rules.specs.Lists.{Pairwise}
 use Rattle.rules.specs.Actions.{Action, beside}
-use Rattle.rules.specs.Moves.{Candidate, Precedes, action, leftOf, consumedOf, unmetOf, survivors, numbers}
+use Rattle.rules.specs.Moves.{Candidate, Precedes, action, survivors, numbers}
 use Rattle.rules.proofs.ListLaws.{map-mem, mem-map}
 use Rattle.rules.proofs.MoveLaws.{table-survivors}
 use Rattle.rules.proofs.ActionLaws.{beside-survivors}
 use Rattle.tables.specs.declared.Refusal.{Refusal}
 use Rattle.tables.specs.declared.Checked.the-variants.{Passed, Fault}
 use Rattle.tables.specs.Checks.{refuse, fault, _then_}
-use Rattle.tables.specs.Answers.{Answer, turnedBack, carriedOut}
+use Rattle.tables.specs.Answers.{turnedBack, carriedOut}
 use Rattle.tables.specs.Tables.{tableOf}
 use Rattle.moves.specs.Pairs.{survivorsIn}
 use Rattle.checker.specs.declared.Question.{Question}

@@ -6,6 +6,7 @@ use native.Mathlib.Omega.{arith}
 use lib.ListN.{length}
 use borrow.Author.Tests.{leb-false}
 use Rattle.rules.specs.Machines.{Machine, Sound, widen}
+use Rattle.rules.proofs.BelowLaws.{few-pairs}
 use Rattle.rules.proofs.MachineLaws.{widen-none}
 use Rattle.tables.specs.declared.Refusal.{Refusal}
 use Rattle.tables.specs.declared.Checked.{Checked}
@@ -23,7 +24,6 @@ use Rattle.tables.proofs.AcceptedLaws.{tables-passed, refused-fault, passed-acc
 use Rattle.tables.proofs.TableLaws.{body-sound}
 use Rattle.machines.specs.Memory.{statesIn, machineIn, InMemory}
 use Rattle.machines.specs.Load.{LoadsTable}
-use Rattle.marks.proofs.RoundLaws.{few-pairs}
 use Rattle.checker.specs.declared.Question.{Question}
 use Rattle.checker.specs.declared.named.Named.{Named}
 use Rattle.checker.specs.Named.{namedFault}
@@ -113,10 +113,10 @@ pair-loaded s q demand supply e x f y = record {
   supply-is = loaded-plain s (q .supply .table) supply f;
 }
 
--- m and n are what the two machines say of their states
-module _ {s : List ℕ} {q : Question} {demand supply : List ℕ} (x : PairLoaded s q demand supply) {m n : ℕ} (e : m ≡ statesIn demand) (f : n ≡ statesIn supply) where
-  pub pairs-are : m * n ≡ demandOf s q .n * supplyOf s q .n
-  pairs-are = ap₂ (λ (y z : ℕ). y * z) (e ∙ ap (λ (M : Machine). M .n) (x .demand-is)) (f ∙ ap (λ (M : Machine). M .n) (x .supply-is))
+-- as many pairs as the machines have
+module _ {s : List ℕ} {q : Question} {demand supply : List ℕ} (x : PairLoaded s q demand supply) {pairs : ℕ} (e : pairs ≡ statesIn demand * statesIn supply) where
+  pub pairs-are : pairs ≡ demandOf s q .n * supplyOf s q .n
+  pairs-are = e ∙ ap₂ (λ (D S : Machine). D .n * S .n) (x .demand-is) (x .supply-is)
 
-  pub pairs-few : m * n ≤ 4096
-  pairs-few = few-pairs m n (rw e (x .machines .demand-machine .few-states)) (rw f (x .machines .supply-machine .few-states))
+  pub pairs-few : pairs ≤ 4096
+  pairs-few = rw e (few-pairs (statesIn demand) (statesIn supply) (x .machines .demand-machine .few-states) (x .machines .supply-machine .few-states))

@@ -2,7 +2,6 @@
 use Prim.Native.Nat.{ℕ, _*_, _≤_, _<_}
 use mathlib.Core.Path.{_≡_, refl, sym, ap, _∙_}
 use mathlib.Core.List.{List, [], _∷_}
-use native.Mathlib.Omega.{arith}
 use lib.ListN.{length, getD, take, drop}
 use lib.Seq.{take-at}
 use borrow.Author.Tests.{lt-ltb, le-ltb}
@@ -21,7 +20,8 @@ use Rattle.tables.specs.Checks.{refuse, fault, _then_}
 use Rattle.tables.specs.Answers.{turnedBack, carriedOut}
 use Rattle.tables.specs.Tables.{tableOf}
 use Rattle.tables.proofs.CheckLaws.{then-left}
-use Rattle.machines.specs.Memory.{machineIn}
+use Rattle.marks.specs.InPlace.{marksIn}
+use Rattle.marks.proofs.RoundLaws.{has-marks}
 use Rattle.runs.specs.Walks.{Starts, markFrom, stepsFrom}
 use Rattle.checker.specs.declared.Question.{Question}
 use Rattle.checker.specs.declared.Counted.{Counted}
@@ -31,7 +31,7 @@ use Rattle.checker.specs.Decide.{modeOf, decideChecks}
 use Rattle.checker.specs.Run.{runChecks, runAnswer, runMarks, runSteps}
 use Rattle.checker.specs.Demands.{RunDemand, RunDemands}
 use Rattle.checker.proofs.PairLaws.{asked-demand, asked-supply, table-at-sound, pairs-are}
-use Rattle.checker.proofs.DecideLaws.{has-marks, decide-asked, none-fault}
+use Rattle.checker.proofs.DecideLaws.{decide-asked, none-fault}
 use Rattle.checker.proofs.DemandLaws.{marks-demand, passed}
 
 module _ (s : List ℕ) (q : Question) (mode : ℕ) where
@@ -59,20 +59,20 @@ module _ (s : List ℕ) (q : Question) (mode : ℕ) where
 
 module _ (s : List ℕ) (q : Question) (mode : ℕ) (a : PairAccepted s q) (known : mode ≤ 1) {demand supply : List ℕ} (x : PairLoaded s q demand supply) (m : Mode)
     (same : m ≡ modeOf mode) {p : Pair} (start : p ≡ pairOf q) where
-  -- the run starts from the pair, with the marks that were written
-  pub run-starts : (first : List ℕ) {marked second : List ℕ} → marked ≡ overwrite (marks m (machineIn demand) (machineIn supply)) first
-      → 2 * (demandOf s q .n * supplyOf s q .n) ≤ length second → Starts demand supply m p marked second
-  run-starts first {marked} {second} left room = record {
+  -- the run starts from the pair, and there is room
+  pub run-starts : {first second : List ℕ} → demandOf s q .n * supplyOf s q .n ≤ length first → 2 * (demandOf s q .n * supplyOf s q .n) ≤ length second
+      → Starts demand supply p first second
+  run-starts long room = record {
     machines = x .machines;
-    marks = has-marks m (machineIn demand) (machineIn supply) first left;
     demand-state = rw (start, ap (λ (M : Machine). M .n) (x .demand-is)) (asked-demand s q a .state);
     supply-state = rw (start, ap (λ (M : Machine). M .n) (x .supply-is)) (asked-supply s q a .state);
-    room = rw (pairs-are x refl refl) room;
+    marks-room = rw (pairs-are x refl) long;
+    steps-room = rw (pairs-are x refl) room;
   }
 
   pub run-carried-out : (first second : List ℕ) → demandOf s q .n * supplyOf s q .n ≤ length first → 2 * (demandOf s q .n * supplyOf s q .n) ≤ length second
       → {count : ℕ} {marked stepped : List ℕ}
-      → marked ≡ overwrite (marks m (machineIn demand) (machineIn supply)) first
+      → marked ≡ overwrite (marksIn m demand supply) first
       → count ≡ markFrom m demand supply p
       → stepped ≡ overwrite (stepsFrom m demand supply p) second
       → (carriedOut (count ∷ []) ≡ runAnswer s q mode (length first) (length second)) × ((marked ≡ runMarks s q mode first (length second)) × (stepped ≡ runSteps s q mode (length first) second))

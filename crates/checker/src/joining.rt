@@ -9,8 +9,8 @@ use crate::named::Named;
 use crate::named::check_named;
 use joins::Written;
 use machines::Layout;
+use machines::count_pairs;
 use machines::load_table;
-use machines::states;
 use rules::Limits;
 use tables::Checked;
 use tables::Refusal;
@@ -42,13 +42,10 @@ pub(crate) fn write_join(file: &[u8], first: usize, second: usize, out: &mut [u8
     let mut two = [0u32; Layout::ENTRIES];
     load_table(file, first, 0, &mut one);
     load_table(file, second, 0, &mut two);
-    let pairs = states(&one) as usize * states(&two) as usize;
+    let states = count_pairs(&one, &two);
     match joins::write(&one, &two, out) {
         Written::TooMany => Joined::Refused(Refusal::new(17, 0)),
         Written::NoRoom => Joined::Refused(Refusal::new(14, 0)),
-        Written::Count(rows) => Joined::Table(TableSize {
-            states: pairs,
-            rows,
-        }),
+        Written::Count(rows) => Joined::Table(TableSize { states, rows }),
     }
 }

@@ -14,8 +14,8 @@ use crate::Verdict;
 use crate::named::Named;
 use crate::named::check_named;
 use machines::Layout;
+use machines::count_pairs;
 use machines::load_table;
-use machines::states;
 use rules::Mode;
 use rules::Pair;
 use tables::Checked;
@@ -110,7 +110,7 @@ pub(crate) fn write_marks(
     let mut demand = [0u32; Layout::ENTRIES];
     let mut supply = [0u32; Layout::ENTRIES];
     let start = load_pair(file, question, &mut demand, &mut supply);
-    if marks.len() < states(&demand) as usize * states(&supply) as usize {
+    if marks.len() < count_pairs(&demand, &supply) {
         return Decided::Refused(Refusal::new(14, 0));
     }
     let summary = marks::write(&demand, &supply, mode_of(mode), marks);
@@ -137,14 +137,13 @@ pub(crate) fn write_run(
     let mut demand = [0u32; Layout::ENTRIES];
     let mut supply = [0u32; Layout::ENTRIES];
     let start = load_pair(file, question, &mut demand, &mut supply);
-    let pairs = states(&demand) as usize * states(&supply) as usize;
+    let pairs = count_pairs(&demand, &supply);
     if marks.len() < pairs {
         return Counted::Refused(Refusal::new(14, 0));
     }
     if steps.len() < 2 * pairs {
         return Counted::Refused(Refusal::new(14, 0));
     }
-    let asked = mode_of(mode);
-    marks::write(&demand, &supply, asked, marks);
-    Counted::Count(runs::write(&demand, &supply, asked, start, marks, steps) as usize)
+    let count = runs::write(&demand, &supply, mode_of(mode), start, marks, steps);
+    Counted::Count(count as usize)
 }

@@ -6,7 +6,7 @@ use mathlib.Core.List.{List, [], _∷_, _++_, map, append-nil, append-assoc, Lis
 use mathlib.Core.Logic.{_⊎_, inl, inr}
 use native.Mathlib.Omega.{arith}
 use native.Mathlib.Decide.{le-ind}
-use native.Mathlib.Nat.{mul-one}
+use native.Mathlib.Nat.{mul-one, mul-le-mul-right}
 use lib.Dec.{T, not-T, leb, leb→le, nleb→lt, ltb, ltb→lt, nltb→le}
 use lib.ListN.{length, getD, length-append, List·getD-append}
 use lib.Seq.{getD-append-add, ext-getD}
@@ -16,6 +16,14 @@ use Rattle.rules.specs.Machines.{Machine}
 use Rattle.rules.specs.Rounds.{countPairs}
 use Rattle.rules.proofs.Booleans.{T-or}
 use Rattle.rules.proofs.ListLaws.{map-append}
+
+-- the product of two bytes is small
+pub small-product : (a b : ℕ) → a < 256 → b < 256 → a * b < 65536
+small-product a b k l = let wide : a ≤ 255 = omega arith in omega (arith, mul-le-mul-right b wide)
+
+-- two tables have few pairs of states
+pub few-pairs : (a b : ℕ) → a ≤ 64 → b ≤ 64 → a * b ≤ 4096
+few-pairs a b k l = omega (arith, mul-le-mul-right b k)
 
 -- a number below n + 1 is below n or is n
 pub lt-cases : (j n : ℕ) → j < suc n → (j < n) ⊎ (j ≡ n)

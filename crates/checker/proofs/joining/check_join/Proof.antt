@@ -3,7 +3,7 @@ use Prim.Native.Nat.{_*_}
 use mathlib.Core.Path.{refl, ap₂, _∙_}
 use native.Mathlib.Omega.{arith}
 use borrow.Author.Tests.{lt-ltb, le-ltb}
-use Rattle.marks.proofs.PairLaws.{small-product}
+use Rattle.rules.proofs.BelowLaws.{small-product}
 use Rattle.tables.specs.Checks.{fault, _then_}
 use Rattle.checker.specs.Named.{namedFault}
 use Rattle.checker.specs.Join.{joinFault}

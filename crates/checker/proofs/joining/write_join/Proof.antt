@@ -1,7 +1,7 @@
 -- `checker::joining::write_join` meets its contract. The engine's answer decides.
 use native.Mathlib.Omega.{arith}
 use Rattle.checker.proofs.PairLaws.{table-loads}
-use Rattle.checker.proofs.JoinLaws.{first-at, second-at, product-is, product-few, two-demands, rows-found, write-answers}
+use Rattle.checker.proofs.JoinLaws.{first-at, second-at, product-is, two-demands, rows-found, write-answers}
 use borrow.Author.Needs.{needs}
 use Rattle.checker.proofs.joining.write_join.Statement.{statement}
 use Rattle.checker.proofs.joining.write_join.Tie as tie
@@ -18,26 +18,14 @@ slice-aggregate-load-table-2 c = search needs
 load-table-requires-2 : tie.Need-load-table-requires-2
 load-table-requires-2 c κs = table-loads _ _ _ (second-at _ _ _ (c .before .before .before .before .before .before .pre)) _ (omega arith)
 
-slice-aggregate-states : tie.Need-slice-aggregate-states
-slice-aggregate-states c = search needs
+slice-aggregate-count-pairs : tie.Need-slice-aggregate-count-pairs
+slice-aggregate-count-pairs c = search needs
 
-states-requires : tie.Need-states-requires
-states-requires c κs = search needs
+slice-aggregate-count-pairs-2 : tie.Need-slice-aggregate-count-pairs-2
+slice-aggregate-count-pairs-2 c = search needs
 
-cast-pairs : tie.Need-cast-pairs
-cast-pairs c = search needs
-
-slice-aggregate-states-2 : tie.Need-slice-aggregate-states-2
-slice-aggregate-states-2 c = search needs
-
-states-requires-2 : tie.Need-states-requires-2
-states-requires-2 c κs = search needs
-
-cast-pairs-2 : tie.Need-cast-pairs-2
-cast-pairs-2 c = search needs
-
-mul-pairs : tie.Need-mul-pairs
-mul-pairs c = let few = product-few _ _ _ (c .before .before .before .before .before .before .before .before .before .before .before .before .pre) _ (c .before .before .before .before .before .before .before .before .load-table .ensures .0) _ (c .before .before .before .before .before .load-table2 .ensures .0) (c .before .before .states .ensures) (c .states2 .ensures) in omega arith
+count-pairs-requires : tie.Need-count-pairs-requires
+count-pairs-requires c κs = search needs
 
 slice-aggregate-write : tie.Need-slice-aggregate-write
 slice-aggregate-write c = search needs
@@ -46,7 +34,7 @@ slice-aggregate-write-2 : tie.Need-slice-aggregate-write-2
 slice-aggregate-write-2 c = search needs
 
 write-requires : tie.Need-write-requires
-write-requires c κs = two-demands _ _ _ (c .before .before .before .before .before .before .before .before .before .before .before .before .before .before .before .pre) _ (c .before .before .before .before .before .before .before .before .before .before .before .load-table .ensures .0) _ (c .before .before .before .before .before .before .before .before .load-table2 .ensures .0) (c .before .before .before .before .before .before .before .before .before .before .before .load-table .ensures .1 .0) (c .before .before .before .before .before .before .before .before .load-table2 .ensures .1 .0)
+write-requires c κs = two-demands _ _ _ (c .before .before .before .before .before .before .before .before .before .before .before .before .before .before .pre) _ (c .before .before .before .before .before .before .before .before .before .before .load-table .ensures .0) _ (c .before .before .before .before .before .before .before .load-table2 .ensures .0) (c .before .before .before .before .before .before .before .before .before .before .load-table .ensures .1 .0) (c .before .before .before .before .before .before .before .load-table2 .ensures .1 .0)
 
 enum-told : tie.Need-enum-told
 enum-told c = search needs
@@ -67,19 +55,19 @@ same-length : tie.Need-same-length
 same-length c = search needs
 
 returns : tie.Need-returns
-returns c = rw (c .new .ensures) (write-answers _ _ _ (c .before .before .before .before .before .before .before .before .before .before .before .before .before .before .before .before .before .before .before .before .before .pre) _ (product-is _ _ _ (c .before .before .before .before .before .before .before .before .before .before .before .before .before .before .before .before .before .before .before .before .before .pre) _ (c .before .before .before .before .before .before .before .before .before .before .before .before .before .before .before .before .before .load-table .ensures .0) _ (c .before .before .before .before .before .before .before .before .before .before .before .before .before .before .load-table2 .ensures .0) (c .before .before .before .before .before .before .before .before .before .before .before .states .ensures) (c .before .before .before .before .before .before .before .before .before .states2 .ensures)) _ _ _ (rows-found _ _ _ (c .before .before .before .before .before .before .before .before .before .before .before .before .before .before .before .before .before .before .before .before .before .pre) _ (c .before .before .before .before .before .before .before .before .before .before .before .before .before .before .before .before .before .load-table .ensures .0) _ (c .before .before .before .before .before .before .before .before .before .before .before .before .before .before .load-table2 .ensures .0)) _ (c .before .before .before .before .before .write .ensures .0) (c .before .before .before .before .before .write .ensures .1) (c .before .enum-told .given .1))
+returns c = rw (c .new .ensures) (write-answers _ _ _ (c .before .before .before .before .before .before .before .before .before .before .before .before .before .before .before .before .before .before .before .before .pre) _ (product-is _ _ _ (c .before .before .before .before .before .before .before .before .before .before .before .before .before .before .before .before .before .before .before .before .pre) _ (c .before .before .before .before .before .before .before .before .before .before .before .before .before .before .before .before .load-table .ensures .0) _ (c .before .before .before .before .before .before .before .before .before .before .before .before .before .load-table2 .ensures .0) (c .before .before .before .before .before .before .before .before .before .count-pairs .ensures)) _ _ _ (rows-found _ _ _ (c .before .before .before .before .before .before .before .before .before .before .before .before .before .before .before .before .before .before .before .before .pre) _ (c .before .before .before .before .before .before .before .before .before .before .before .before .before .before .before .before .load-table .ensures .0) _ (c .before .before .before .before .before .before .before .before .before .before .before .before .before .load-table2 .ensures .0)) _ (c .before .before .before .before .before .write .ensures .0) (c .before .before .before .before .before .write .ensures .1) (c .before .enum-told .given .1))
 
 same-length-2 : tie.Need-same-length-2
 same-length-2 c = search needs
 
 returns-2 : tie.Need-returns-2
-returns-2 c = rw (c .new2 .ensures) (write-answers _ _ _ (c .before .before .before .before .before .before .before .before .before .before .before .before .before .before .before .before .before .before .before .before .before .pre) _ (product-is _ _ _ (c .before .before .before .before .before .before .before .before .before .before .before .before .before .before .before .before .before .before .before .before .before .pre) _ (c .before .before .before .before .before .before .before .before .before .before .before .before .before .before .before .before .before .load-table .ensures .0) _ (c .before .before .before .before .before .before .before .before .before .before .before .before .before .before .load-table2 .ensures .0) (c .before .before .before .before .before .before .before .before .before .before .before .states .ensures) (c .before .before .before .before .before .before .before .before .before .states2 .ensures)) _ _ _ (rows-found _ _ _ (c .before .before .before .before .before .before .before .before .before .before .before .before .before .before .before .before .before .before .before .before .before .pre) _ (c .before .before .before .before .before .before .before .before .before .before .before .before .before .before .before .before .before .load-table .ensures .0) _ (c .before .before .before .before .before .before .before .before .before .before .before .before .before .before .load-table2 .ensures .0)) _ (c .before .before .before .before .before .write .ensures .0) (c .before .before .before .before .before .write .ensures .1) (c .before .enum-told2 .given .1))
+returns-2 c = rw (c .new2 .ensures) (write-answers _ _ _ (c .before .before .before .before .before .before .before .before .before .before .before .before .before .before .before .before .before .before .before .before .pre) _ (product-is _ _ _ (c .before .before .before .before .before .before .before .before .before .before .before .before .before .before .before .before .before .before .before .before .pre) _ (c .before .before .before .before .before .before .before .before .before .before .before .before .before .before .before .before .load-table .ensures .0) _ (c .before .before .before .before .before .before .before .before .before .before .before .before .before .load-table2 .ensures .0) (c .before .before .before .before .before .before .before .before .before .count-pairs .ensures)) _ _ _ (rows-found _ _ _ (c .before .before .before .before .before .before .before .before .before .before .before .before .before .before .before .before .before .before .before .before .pre) _ (c .before .before .before .before .before .before .before .before .before .before .before .before .before .before .before .before .load-table .ensures .0) _ (c .before .before .before .before .before .before .before .before .before .before .before .before .before .load-table2 .ensures .0)) _ (c .before .before .before .before .before .write .ensures .0) (c .before .before .before .before .before .write .ensures .1) (c .before .enum-told2 .given .1))
 
 same-length-3 : tie.Need-same-length-3
 same-length-3 c = search needs
 
 returns-3 : tie.Need-returns-3
-returns-3 c = write-answers _ _ _ (c .before .before .before .before .before .before .before .before .before .before .before .before .before .before .before .before .before .before .before .before .before .pre) _ (product-is _ _ _ (c .before .before .before .before .before .before .before .before .before .before .before .before .before .before .before .before .before .before .before .before .before .pre) _ (c .before .before .before .before .before .before .before .before .before .before .before .before .before .before .before .before .before .load-table .ensures .0) _ (c .before .before .before .before .before .before .before .before .before .before .before .before .before .before .load-table2 .ensures .0) (c .before .before .before .before .before .before .before .before .before .before .before .states .ensures) (c .before .before .before .before .before .before .before .before .before .states2 .ensures)) _ _ _ (rows-found _ _ _ (c .before .before .before .before .before .before .before .before .before .before .before .before .before .before .before .before .before .before .before .before .before .pre) _ (c .before .before .before .before .before .before .before .before .before .before .before .before .before .before .before .before .before .load-table .ensures .0) _ (c .before .before .before .before .before .before .before .before .before .before .before .before .before .before .load-table2 .ensures .0)) _ (c .before .before .before .before .before .write .ensures .0) (c .before .before .before .before .before .write .ensures .1) (c .before .rows .given .1)
+returns-3 c = write-answers _ _ _ (c .before .before .before .before .before .before .before .before .before .before .before .before .before .before .before .before .before .before .before .before .pre) _ (product-is _ _ _ (c .before .before .before .before .before .before .before .before .before .before .before .before .before .before .before .before .before .before .before .before .pre) _ (c .before .before .before .before .before .before .before .before .before .before .before .before .before .before .before .before .load-table .ensures .0) _ (c .before .before .before .before .before .before .before .before .before .before .before .before .before .load-table2 .ensures .0) (c .before .before .before .before .before .before .before .before .before .count-pairs .ensures)) _ _ _ (rows-found _ _ _ (c .before .before .before .before .before .before .before .before .before .before .before .before .before .before .before .before .before .before .before .before .pre) _ (c .before .before .before .before .before .before .before .before .before .before .before .before .before .before .before .before .load-table .ensures .0) _ (c .before .before .before .before .before .before .before .before .before .before .before .before .before .load-table2 .ensures .0)) _ (c .before .before .before .before .before .write .ensures .0) (c .before .before .before .before .before .write .ensures .1) (c .before .rows .given .1)
 
 pub write-join-spec : {M : Type 1} → statement M
 write-join-spec =
@@ -89,13 +77,9 @@ write-join-spec =
     load-table-requires
     slice-aggregate-load-table-2
     load-table-requires-2
-    slice-aggregate-states
-    states-requires
-    cast-pairs
-    slice-aggregate-states-2
-    states-requires-2
-    cast-pairs-2
-    mul-pairs
+    slice-aggregate-count-pairs
+    slice-aggregate-count-pairs-2
+    count-pairs-requires
     slice-aggregate-write
     slice-aggregate-write-2
     write-requires

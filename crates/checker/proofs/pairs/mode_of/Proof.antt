@@ -2,7 +2,6 @@
 use mathlib.Core.Path.{refl}
 use borrow.Author.Tests.{eq-eqb, ne-eqb}
 use Rattle.checker.specs.Decide.{modeOf}
-use borrow.Author.Needs.{needs}
 use Rattle.checker.proofs.pairs.mode_of.Statement.{statement}
 use Rattle.checker.proofs.pairs.mode_of.Tie as tie
 

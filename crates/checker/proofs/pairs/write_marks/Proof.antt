@@ -1,7 +1,7 @@
 -- `checker::pairs::write_marks` meets its contract. The engine writes the marks; the start pair's is read from them.
 use native.Mathlib.Omega.{arith}
 use Rattle.tables.specs.Checks.{refuse}
-use Rattle.checker.proofs.PairLaws.{pairs-are, pairs-few}
+use Rattle.checker.proofs.PairLaws.{pairs-are}
 use Rattle.checker.proofs.DecideLaws.{turned-back, short-fault, carried-out}
 use borrow.Author.Needs.{needs}
 use Rattle.checker.proofs.pairs.write_marks.Statement.{statement}
@@ -16,32 +16,20 @@ slice-aggregate-load-pair-2 c = search needs
 load-pair-requires : tie.Need-load-pair-requires
 load-pair-requires c κs = (c .before .before .before .before .pre .0, omega arith, omega arith)
 
-slice-aggregate-states : tie.Need-slice-aggregate-states
-slice-aggregate-states c = search needs
+slice-aggregate-count-pairs : tie.Need-slice-aggregate-count-pairs
+slice-aggregate-count-pairs c = search needs
 
-states-requires : tie.Need-states-requires
-states-requires c κs = search needs
+slice-aggregate-count-pairs-2 : tie.Need-slice-aggregate-count-pairs-2
+slice-aggregate-count-pairs-2 c = search needs
 
-cast-if1 : tie.Need-cast-if1
-cast-if1 c = search needs
-
-slice-aggregate-states-2 : tie.Need-slice-aggregate-states-2
-slice-aggregate-states-2 c = search needs
-
-states-requires-2 : tie.Need-states-requires-2
-states-requires-2 c κs = search needs
-
-cast-if1-2 : tie.Need-cast-if1-2
-cast-if1-2 c = search needs
-
-mul-if1 : tie.Need-mul-if1
-mul-if1 c = let few = pairs-few (c .before .before .before .before .before .before .load-pair .ensures .1 .0) (c .before .before .states .ensures) (c .states2 .ensures) in omega arith
+count-pairs-requires : tie.Need-count-pairs-requires
+count-pairs-requires c κs = search needs
 
 new-requires : tie.Need-new-requires
 new-requires c κs = search needs
 
 returns : tie.Need-returns
-returns c = rw (c .new .ensures) (turned-back _ _ _ (refuse 14 0) _ (short-fault _ _ _ (c .before .before .before .before .before .before .before .before .before .before .before .before .before .pre .0) (c .before .before .before .before .before .before .before .before .before .before .before .before .before .pre .1) _ (rw (← pairs-are (c .before .before .before .before .before .before .before .before .load-pair .ensures .1 .0) (c .before .before .before .before .states .ensures) (c .before .before .states2 .ensures)) (c .before .if1 .taken))))
+returns c = rw (c .new .ensures) (turned-back _ _ _ (refuse 14 0) _ (short-fault _ _ _ (c .before .before .before .before .before .before .before .before .before .before .before .before .pre .0) (c .before .before .before .before .before .before .before .before .before .before .before .before .pre .1) _ (rw (← pairs-are (c .before .before .before .before .before .before .before .load-pair .ensures .1 .0) (c .before .before .count-pairs .ensures)) (c .before .if1 .taken))))
 
 slice-aggregate-write : tie.Need-slice-aggregate-write
 slice-aggregate-write c = search needs
@@ -53,7 +41,7 @@ mode-of-requires : tie.Need-mode-of-requires
 mode-of-requires c κs = search needs
 
 write-requires : tie.Need-write-requires
-write-requires c κs = (c .before .before .before .before .before .before .before .before .before .before .before .load-pair .ensures .1 .0 .machines, rw (← c .before .before .before .before .before .before .before .states .ensures, ← c .before .before .before .before .before .states2 .ensures) (c .before .before .before .before .if1 .left))
+write-requires c κs = (c .before .before .before .before .before .before .before .before .before .before .load-pair .ensures .1 .0 .machines, rw (← c .before .before .before .before .before .count-pairs .ensures) (c .before .before .before .before .if1 .left))
 
 slice-aggregate-mark-of : tie.Need-slice-aggregate-mark-of
 slice-aggregate-mark-of c = search needs
@@ -65,7 +53,7 @@ same-length : tie.Need-same-length
 same-length c = search needs
 
 returns-2 : tie.Need-returns-2
-returns-2 c = carried-out _ _ _ (c .before .before .before .before .before .before .before .before .before .before .before .before .before .before .before .before .before .before .before .before .before .before .pre .0) (c .before .before .before .before .before .before .before .before .before .before .before .before .before .before .before .before .before .before .before .before .before .before .pre .1) (c .before .before .before .before .before .before .before .before .before .before .before .before .before .before .before .before .before .load-pair .ensures .1 .0) _ (c .before .before .before .before .before .before .before .mode-of .ensures) _ _ (c .before .before .before .before .before .write .ensures .0) (rw (← pairs-are (c .before .before .before .before .before .before .before .before .before .before .before .before .before .before .before .before .before .load-pair .ensures .1 .0) (c .before .before .before .before .before .before .before .before .before .before .before .before .before .states .ensures) (c .before .before .before .before .before .before .before .before .before .before .before .states2 .ensures)) (c .before .before .before .before .before .before .before .before .before .before .if1 .left)) (c .before .before .before .before .before .before .before .before .before .before .before .before .before .before .before .before .before .load-pair .ensures .0) (c .mark-of .ensures) _ (c .before .before .before .before .before .write .ensures .1)
+returns-2 c = carried-out _ _ _ (c .before .before .before .before .before .before .before .before .before .before .before .before .before .before .before .before .before .before .before .before .before .pre .0) (c .before .before .before .before .before .before .before .before .before .before .before .before .before .before .before .before .before .before .before .before .before .pre .1) (c .before .before .before .before .before .before .before .before .before .before .before .before .before .before .before .before .load-pair .ensures .1 .0) _ (c .before .before .before .before .before .before .before .mode-of .ensures) _ _ (c .before .before .before .before .before .write .ensures .0) (rw (← pairs-are (c .before .before .before .before .before .before .before .before .before .before .before .before .before .before .before .before .load-pair .ensures .1 .0) (c .before .before .before .before .before .before .before .before .before .before .before .count-pairs .ensures)) (c .before .before .before .before .before .before .before .before .before .before .if1 .left)) (c .before .before .before .before .before .before .before .before .before .before .before .before .before .before .before .before .load-pair .ensures .0) (c .mark-of .ensures) _ (c .before .before .before .before .before .write .ensures .1)
 
 pub write-marks-spec : {M : Type 1} → statement M
 write-marks-spec =
@@ -74,13 +62,9 @@ write-marks-spec =
     slice-aggregate-load-pair
     slice-aggregate-load-pair-2
     load-pair-requires
-    slice-aggregate-states
-    states-requires
-    cast-if1
-    slice-aggregate-states-2
-    states-requires-2
-    cast-if1-2
-    mul-if1
+    slice-aggregate-count-pairs
+    slice-aggregate-count-pairs-2
+    count-pairs-requires
     new-requires
     returns
     slice-aggregate-write

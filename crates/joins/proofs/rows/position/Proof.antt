@@ -1,6 +1,5 @@
 -- `joins::rows::position` meets its contract. The invariant: the rows from `start` to i come before the row.
 use Prim.Native.Nat.{_-_}
-use native.Mathlib.Omega.{arith}
 use Rattle.joins.proofs.RowLaws.{Before, before-none, before-next, before-found, before-done}
 use borrow.Author.Needs.{needs}
 use Rattle.joins.proofs.rows.position.Statement.{statement}

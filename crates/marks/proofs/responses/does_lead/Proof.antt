@@ -1,5 +1,4 @@
 -- `marks::responses::does_lead` meets its contract.
-use mathlib.Core.Path.{_∙_}
 use Rattle.marks.specs.Responses.{leads}
 use borrow.Author.Needs.{needs}
 use Rattle.marks.proofs.responses.does_lead.Statement.{statement}

@@ -1,10 +1,6 @@
 -- `marks::responses::is_wanted` meets its contract.
 use mathlib.Core.Path.{refl, ap}
 use mathlib.Core.Bool.{not}
-use Rattle.marks.specs.Responses.{wants}
-use mathlib.Core.Path.{refl, sym, ap, _∙_}
-use mathlib.Core.Bool.{not}
-use Rattle.marks.specs.Responses.{wants}
 use borrow.Author.Needs.{needs}
 use Rattle.marks.proofs.responses.is_wanted.Statement.{statement}
 use Rattle.marks.proofs.responses.is_wanted.Tie as tie
