@@ -4,8 +4,6 @@ use borrow.Author.Needs.{needs}
 use Rattle.marks.proofs.responses.does_some_lead.Statement.{statement}
 use Rattle.marks.proofs.responses.does_some_lead.Tie as tie
 
--- `marks::responses::does_some_lead` meets its contract. The first position is below the end exactly if some move passes.
-
 first-response-requires : tie.Need-first-response-requires
 first-response-requires c κs = search needs
 

@@ -5,8 +5,6 @@ use borrow.Author.Needs.{needs}
 use Rattle.marks.proofs.responses.is_wanted.Statement.{statement}
 use Rattle.marks.proofs.responses.is_wanted.Tie as tie
 
--- `marks::responses::is_wanted` meets its contract.
-
 enum-known-wanted : tie.Need-enum-known-wanted
 enum-known-wanted c = search needs
 
