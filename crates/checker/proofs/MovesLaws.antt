@@ -21,7 +21,7 @@ use Rattle.tables.specs.declared.Checked.the-variants.{Passed, Fault}
 use Rattle.tables.specs.Checks.{refuse, fault, _then_}
 use Rattle.tables.specs.Answers.{turnedBack, carriedOut}
 use Rattle.tables.specs.Tables.{tableOf}
-use Rattle.moves.specs.Pairs.{survivorsIn}
+use Rattle.moves.specs.Survivors.{survivorsIn}
 use Rattle.checker.specs.declared.Question.{Question}
 use Rattle.checker.specs.Pairs.{pairChecks, PairAccepted, demandOf, supplyOf, survivorsAt, pairOf, PairLoaded}
 use Rattle.checker.specs.Moves.{movesChecks, movesAnswer, movesSlice, stepNumbers}
