@@ -22,7 +22,7 @@ use Rattle.tables.specs.Tables.{tableOf}
 use Rattle.tables.proofs.CheckLaws.{then-left}
 use Rattle.marks.specs.InPlace.{marksIn}
 use Rattle.marks.proofs.RoundLaws.{has-marks}
-use Rattle.runs.specs.Walks.{Starts, markFrom, stepsFrom}
+use Rattle.runs.specs.Walks.{RunStarts, markFrom, stepsFrom}
 use Rattle.checker.specs.declared.Question.{Question}
 use Rattle.checker.specs.declared.Counted.{Counted}
 use Rattle.checker.specs.Calls.{counted, sliceAfter}
@@ -61,7 +61,7 @@ module _ (s : List ℕ) (q : Question) (mode : ℕ) (a : PairAccepted s q) (know
     (same : m ≡ modeOf mode) {p : Pair} (start : p ≡ pairOf q) where
   -- the run starts from the pair, and there is room
   pub run-starts : {first second : List ℕ} → demandOf s q .n * supplyOf s q .n ≤ length first → 2 * (demandOf s q .n * supplyOf s q .n) ≤ length second
-      → Starts demand supply p first second
+      → RunStarts demand supply p first second
   run-starts long room = record {
     machines = x .machines;
     demand-state = rw (start, ap (λ (M : Machine). M .n) (x .demand-is)) (asked-demand s q a .state);

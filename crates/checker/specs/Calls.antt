@@ -1,4 +1,4 @@
--- What the calls answer, in document 01's terms.
+-- How the enums of the calls are read as answers in document 01's terms, and what a call turned back leaves.
 use mathlib.Core.List.{List, [], _∷_}
 use Prim.Native.Nat.{ℕ}
 use Rattle.rules.specs.Below.{one}

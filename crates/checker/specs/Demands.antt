@@ -81,13 +81,13 @@ pub record RunDemand (mode : Mode) (D S : Machine) (t s count : ℕ) (marks step
 -- ---- of the calls
 
 -- what a call of Decide that is carried out promises, of its answer and of the slice at exit
-pub record DecideDemands (s : List ℕ) (q : Question) (mode : ℕ) (a : Answer) (slice : List ℕ) : Type 0 where
+pub record DecideDemands (file : List ℕ) (q : Question) (mode : ℕ) (a : Answer) (slice : List ℕ) : Type 0 where
   pub second : (verdict kept rounds : ℕ) → a ≡ carriedOut (verdict ∷ kept ∷ rounds ∷ [])
-      → SecondDemand (modeOf mode) (demandOf s q) (supplyOf s q) (q .demand .state) (q .supply .state) verdict rounds slice
+      → SecondDemand (modeOf mode) (demandOf file q) (supplyOf file q) (q .demand .state) (q .supply .state) verdict rounds slice
   pub third : (verdict kept rounds : ℕ) → a ≡ carriedOut (verdict ∷ kept ∷ rounds ∷ [])
-      → ThirdDemand (modeOf mode) (demandOf s q) (supplyOf s q) (q .demand .state) (q .supply .state) verdict kept slice
+      → ThirdDemand (modeOf mode) (demandOf file q) (supplyOf file q) (q .demand .state) (q .supply .state) verdict kept slice
 
 -- what a call of Run that is carried out promises, of its answer and of the slices at exit
-pub record RunDemands (s : List ℕ) (q : Question) (mode : ℕ) (a : Answer) (marks steps : List ℕ) : Type 0 where
+pub record RunDemands (file : List ℕ) (q : Question) (mode : ℕ) (a : Answer) (marks steps : List ℕ) : Type 0 where
   pub second : (count : ℕ) → a ≡ carriedOut (count ∷ [])
-      → RunDemand (modeOf mode) (demandOf s q) (supplyOf s q) (q .demand .state) (q .supply .state) count marks steps
+      → RunDemand (modeOf mode) (demandOf file q) (supplyOf file q) (q .demand .state) (q .supply .state) count marks steps

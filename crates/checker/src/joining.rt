@@ -9,8 +9,8 @@ use crate::named::Named;
 use crate::named::check_named;
 use joins::Written;
 use machines::Layout;
-use machines::count_pairs;
 use machines::load_table;
+use machines::pair_count;
 use rules::Limits;
 use tables::Checked;
 use tables::Refusal;
@@ -38,12 +38,12 @@ pub(crate) fn write_join(file: &[u8], first: usize, second: usize, out: &mut [u8
     ensures answer { λ r. ⌜ joined r ≡ joinAnswer (now (file .entry)) first second (length (now (out .entry))) ⌝ }
     ensures slice { λ r. ⌜ now (out .exit) ≡ joinSlice (now (file .entry)) first second (now (out .entry)) ⌝ }
 {
-    let mut one = [0u32; Layout::ENTRIES];
-    let mut two = [0u32; Layout::ENTRIES];
-    load_table(file, first, 0, &mut one);
-    load_table(file, second, 0, &mut two);
-    let states = count_pairs(&one, &two);
-    match joins::write(&one, &two, out) {
+    let mut first_machine = [0u32; Layout::ENTRIES];
+    let mut second_machine = [0u32; Layout::ENTRIES];
+    load_table(file, first, 0, &mut first_machine);
+    load_table(file, second, 0, &mut second_machine);
+    let states = pair_count(&first_machine, &second_machine);
+    match joins::write(&first_machine, &second_machine, out) {
         Written::TooMany => Joined::Refused(Refusal::new(17, 0)),
         Written::NoRoom => Joined::Refused(Refusal::new(14, 0)),
         Written::Count(rows) => Joined::Table(TableSize { states, rows }),

@@ -14,8 +14,8 @@ use crate::Verdict;
 use crate::named::Named;
 use crate::named::check_named;
 use machines::Layout;
-use machines::count_pairs;
 use machines::load_table;
+use machines::pair_count;
 use rules::Mode;
 use rules::Pair;
 use tables::Checked;
@@ -26,9 +26,9 @@ use tables::states_of;
 pub(crate) fn check_pair(file: &[u8], k: usize, question: Question) -> Checked
     ensures { λ r. ⌜ r ≡ pairFault (now (file .entry)) k question ⌝ }
 {
-    let task = Named::demand(question.demand.table);
-    let offer = Named::supply(question.supply.table);
-    if let Checked::Fault(refusal) = check_named(file, k, task, offer) {
+    let demand = Named::demand(question.demand.table);
+    let supply = Named::supply(question.supply.table);
+    if let Checked::Fault(refusal) = check_named(file, k, demand, supply) {
         return Checked::Fault(refusal);
     }
     if (states_of(file, question.demand.table) as usize) <= question.demand.state {
@@ -110,7 +110,7 @@ pub(crate) fn write_marks(
     let mut demand = [0u32; Layout::ENTRIES];
     let mut supply = [0u32; Layout::ENTRIES];
     let start = load_pair(file, question, &mut demand, &mut supply);
-    if marks.len() < count_pairs(&demand, &supply) {
+    if marks.len() < pair_count(&demand, &supply) {
         return Decided::Refused(Refusal::new(14, 0));
     }
     let summary = marks::write(&demand, &supply, mode_of(mode), marks);
@@ -137,7 +137,7 @@ pub(crate) fn write_run(
     let mut demand = [0u32; Layout::ENTRIES];
     let mut supply = [0u32; Layout::ENTRIES];
     let start = load_pair(file, question, &mut demand, &mut supply);
-    let pairs = count_pairs(&demand, &supply);
+    let pairs = pair_count(&demand, &supply);
     if marks.len() < pairs {
         return Counted::Refused(Refusal::new(14, 0));
     }

@@ -1,4 +1,4 @@
--- A page: the text for a file, composed and not yet written. It is the refusal, or the answers, with the steps of both modes in slices beside them.
+-- A page: the text for a file, composed and not yet written. It is the refusal, or the outcome, with the steps of both modes in slices beside them.
 use Prim.Native.Nat.{ℕ, _*_, _^_, _≤_, _<_}
 use mathlib.Core.List.{List, [], _∷_, _++_}
 use lib.Dec.{eqb}
@@ -47,9 +47,10 @@ abbrev pub foundOf : Mode → Machine → Machine → ℕ → ℕ → Found
 foundOf mode D S t w =
     record { verdict = record { yes = eqb (mark mode D S t w) 0; kept = keptCount mode D S; rounds = rounds mode D S }; steps = mark mode D S t w }
 
--- and with its steps, of a question about a file
+-- the same of a question about a file
 abbrev pub foundAt : Mode → List ℕ → Question → Found
 foundAt mode s q = foundOf mode (demandOf s q) (supplyOf s q) (q .demand .state) (q .supply .state)
 
+-- and the steps of its run
 abbrev pub stepsAt : Mode → List ℕ → Question → List ℕ
 stepsAt mode s q = steps mode (demandOf s q) (supplyOf s q) (q .demand .state) (q .supply .state)

@@ -18,14 +18,14 @@ slice-aggregate-load-table-2 c = search needs
 load-table-requires-2 : tie.Need-load-table-requires-2
 load-table-requires-2 c κs = table-loads _ _ _ (second-at _ _ _ (c .before .before .before .before .before .before .pre)) _ (omega arith)
 
-slice-aggregate-count-pairs : tie.Need-slice-aggregate-count-pairs
-slice-aggregate-count-pairs c = search needs
+slice-aggregate-pair-count : tie.Need-slice-aggregate-pair-count
+slice-aggregate-pair-count c = search needs
 
-slice-aggregate-count-pairs-2 : tie.Need-slice-aggregate-count-pairs-2
-slice-aggregate-count-pairs-2 c = search needs
+slice-aggregate-pair-count-2 : tie.Need-slice-aggregate-pair-count-2
+slice-aggregate-pair-count-2 c = search needs
 
-count-pairs-requires : tie.Need-count-pairs-requires
-count-pairs-requires c κs = search needs
+pair-count-requires : tie.Need-pair-count-requires
+pair-count-requires c κs = search needs
 
 slice-aggregate-write : tie.Need-slice-aggregate-write
 slice-aggregate-write c = search needs
@@ -55,19 +55,19 @@ same-length : tie.Need-same-length
 same-length c = search needs
 
 returns : tie.Need-returns
-returns c = rw (c .new .ensures) (write-answers _ _ _ (c .before .before .before .before .before .before .before .before .before .before .before .before .before .before .before .before .before .before .before .before .pre) _ (product-is _ _ _ (c .before .before .before .before .before .before .before .before .before .before .before .before .before .before .before .before .before .before .before .before .pre) _ (c .before .before .before .before .before .before .before .before .before .before .before .before .before .before .before .before .load-table .ensures .0) _ (c .before .before .before .before .before .before .before .before .before .before .before .before .before .load-table2 .ensures .0) (c .before .before .before .before .before .before .before .before .before .count-pairs .ensures)) _ _ _ (rows-found _ _ _ (c .before .before .before .before .before .before .before .before .before .before .before .before .before .before .before .before .before .before .before .before .pre) _ (c .before .before .before .before .before .before .before .before .before .before .before .before .before .before .before .before .load-table .ensures .0) _ (c .before .before .before .before .before .before .before .before .before .before .before .before .before .load-table2 .ensures .0)) _ (c .before .before .before .before .before .write .ensures .0) (c .before .before .before .before .before .write .ensures .1) (c .before .enum-told .given .1))
+returns c = rw (c .new .ensures) (write-answers _ _ _ (c .before .before .before .before .before .before .before .before .before .before .before .before .before .before .before .before .before .before .before .before .pre) _ (product-is _ _ _ (c .before .before .before .before .before .before .before .before .before .before .before .before .before .before .before .before .before .before .before .before .pre) _ (c .before .before .before .before .before .before .before .before .before .before .before .before .before .before .before .before .load-table .ensures .0) _ (c .before .before .before .before .before .before .before .before .before .before .before .before .before .load-table2 .ensures .0) (c .before .before .before .before .before .before .before .before .before .pair-count .ensures)) _ _ _ (rows-found _ _ _ (c .before .before .before .before .before .before .before .before .before .before .before .before .before .before .before .before .before .before .before .before .pre) _ (c .before .before .before .before .before .before .before .before .before .before .before .before .before .before .before .before .load-table .ensures .0) _ (c .before .before .before .before .before .before .before .before .before .before .before .before .before .load-table2 .ensures .0)) _ (c .before .before .before .before .before .write .ensures .0) (c .before .before .before .before .before .write .ensures .1) (c .before .enum-told .given .1))
 
 same-length-2 : tie.Need-same-length-2
 same-length-2 c = search needs
 
 returns-2 : tie.Need-returns-2
-returns-2 c = rw (c .new2 .ensures) (write-answers _ _ _ (c .before .before .before .before .before .before .before .before .before .before .before .before .before .before .before .before .before .before .before .before .pre) _ (product-is _ _ _ (c .before .before .before .before .before .before .before .before .before .before .before .before .before .before .before .before .before .before .before .before .pre) _ (c .before .before .before .before .before .before .before .before .before .before .before .before .before .before .before .before .load-table .ensures .0) _ (c .before .before .before .before .before .before .before .before .before .before .before .before .before .load-table2 .ensures .0) (c .before .before .before .before .before .before .before .before .before .count-pairs .ensures)) _ _ _ (rows-found _ _ _ (c .before .before .before .before .before .before .before .before .before .before .before .before .before .before .before .before .before .before .before .before .pre) _ (c .before .before .before .before .before .before .before .before .before .before .before .before .before .before .before .before .load-table .ensures .0) _ (c .before .before .before .before .before .before .before .before .before .before .before .before .before .load-table2 .ensures .0)) _ (c .before .before .before .before .before .write .ensures .0) (c .before .before .before .before .before .write .ensures .1) (c .before .enum-told2 .given .1))
+returns-2 c = rw (c .new2 .ensures) (write-answers _ _ _ (c .before .before .before .before .before .before .before .before .before .before .before .before .before .before .before .before .before .before .before .before .pre) _ (product-is _ _ _ (c .before .before .before .before .before .before .before .before .before .before .before .before .before .before .before .before .before .before .before .before .pre) _ (c .before .before .before .before .before .before .before .before .before .before .before .before .before .before .before .before .load-table .ensures .0) _ (c .before .before .before .before .before .before .before .before .before .before .before .before .before .load-table2 .ensures .0) (c .before .before .before .before .before .before .before .before .before .pair-count .ensures)) _ _ _ (rows-found _ _ _ (c .before .before .before .before .before .before .before .before .before .before .before .before .before .before .before .before .before .before .before .before .pre) _ (c .before .before .before .before .before .before .before .before .before .before .before .before .before .before .before .before .load-table .ensures .0) _ (c .before .before .before .before .before .before .before .before .before .before .before .before .before .load-table2 .ensures .0)) _ (c .before .before .before .before .before .write .ensures .0) (c .before .before .before .before .before .write .ensures .1) (c .before .enum-told2 .given .1))
 
 same-length-3 : tie.Need-same-length-3
 same-length-3 c = search needs
 
 returns-3 : tie.Need-returns-3
-returns-3 c = write-answers _ _ _ (c .before .before .before .before .before .before .before .before .before .before .before .before .before .before .before .before .before .before .before .before .pre) _ (product-is _ _ _ (c .before .before .before .before .before .before .before .before .before .before .before .before .before .before .before .before .before .before .before .before .pre) _ (c .before .before .before .before .before .before .before .before .before .before .before .before .before .before .before .before .load-table .ensures .0) _ (c .before .before .before .before .before .before .before .before .before .before .before .before .before .load-table2 .ensures .0) (c .before .before .before .before .before .before .before .before .before .count-pairs .ensures)) _ _ _ (rows-found _ _ _ (c .before .before .before .before .before .before .before .before .before .before .before .before .before .before .before .before .before .before .before .before .pre) _ (c .before .before .before .before .before .before .before .before .before .before .before .before .before .before .before .before .load-table .ensures .0) _ (c .before .before .before .before .before .before .before .before .before .before .before .before .before .load-table2 .ensures .0)) _ (c .before .before .before .before .before .write .ensures .0) (c .before .before .before .before .before .write .ensures .1) (c .before .rows .given .1)
+returns-3 c = write-answers _ _ _ (c .before .before .before .before .before .before .before .before .before .before .before .before .before .before .before .before .before .before .before .before .pre) _ (product-is _ _ _ (c .before .before .before .before .before .before .before .before .before .before .before .before .before .before .before .before .before .before .before .before .pre) _ (c .before .before .before .before .before .before .before .before .before .before .before .before .before .before .before .before .load-table .ensures .0) _ (c .before .before .before .before .before .before .before .before .before .before .before .before .before .load-table2 .ensures .0) (c .before .before .before .before .before .before .before .before .before .pair-count .ensures)) _ _ _ (rows-found _ _ _ (c .before .before .before .before .before .before .before .before .before .before .before .before .before .before .before .before .before .before .before .before .pre) _ (c .before .before .before .before .before .before .before .before .before .before .before .before .before .before .before .before .load-table .ensures .0) _ (c .before .before .before .before .before .before .before .before .before .before .before .before .before .load-table2 .ensures .0)) _ (c .before .before .before .before .before .write .ensures .0) (c .before .before .before .before .before .write .ensures .1) (c .before .rows .given .1)
 
 pub write-join-spec : {M : Type 1} → statement M
 write-join-spec =
@@ -77,9 +77,9 @@ write-join-spec =
     load-table-requires
     slice-aggregate-load-table-2
     load-table-requires-2
-    slice-aggregate-count-pairs
-    slice-aggregate-count-pairs-2
-    count-pairs-requires
+    slice-aggregate-pair-count
+    slice-aggregate-pair-count-2
+    pair-count-requires
     slice-aggregate-write
     slice-aggregate-write-2
     write-requires

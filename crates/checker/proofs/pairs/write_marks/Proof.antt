@@ -16,20 +16,20 @@ slice-aggregate-load-pair-2 c = search needs
 load-pair-requires : tie.Need-load-pair-requires
 load-pair-requires c κs = (c .before .before .before .before .pre .0, omega arith, omega arith)
 
-slice-aggregate-count-pairs : tie.Need-slice-aggregate-count-pairs
-slice-aggregate-count-pairs c = search needs
+slice-aggregate-pair-count : tie.Need-slice-aggregate-pair-count
+slice-aggregate-pair-count c = search needs
 
-slice-aggregate-count-pairs-2 : tie.Need-slice-aggregate-count-pairs-2
-slice-aggregate-count-pairs-2 c = search needs
+slice-aggregate-pair-count-2 : tie.Need-slice-aggregate-pair-count-2
+slice-aggregate-pair-count-2 c = search needs
 
-count-pairs-requires : tie.Need-count-pairs-requires
-count-pairs-requires c κs = search needs
+pair-count-requires : tie.Need-pair-count-requires
+pair-count-requires c κs = search needs
 
 new-requires : tie.Need-new-requires
 new-requires c κs = search needs
 
 returns : tie.Need-returns
-returns c = rw (c .new .ensures) (turned-back _ _ _ (refuse 14 0) _ (short-fault _ _ _ (c .before .before .before .before .before .before .before .before .before .before .before .before .pre .0) (c .before .before .before .before .before .before .before .before .before .before .before .before .pre .1) _ (rw (← pairs-are (c .before .before .before .before .before .before .before .load-pair .ensures .1 .0) (c .before .before .count-pairs .ensures)) (c .before .if1 .taken))))
+returns c = rw (c .new .ensures) (turned-back _ _ _ (refuse 14 0) _ (short-fault _ _ _ (c .before .before .before .before .before .before .before .before .before .before .before .before .pre .0) (c .before .before .before .before .before .before .before .before .before .before .before .before .pre .1) _ (rw (← pairs-are (c .before .before .before .before .before .before .before .load-pair .ensures .1 .0) (c .before .before .pair-count .ensures)) (c .before .if1 .taken))))
 
 slice-aggregate-write : tie.Need-slice-aggregate-write
 slice-aggregate-write c = search needs
@@ -41,7 +41,7 @@ mode-of-requires : tie.Need-mode-of-requires
 mode-of-requires c κs = search needs
 
 write-requires : tie.Need-write-requires
-write-requires c κs = (c .before .before .before .before .before .before .before .before .before .before .load-pair .ensures .1 .0 .machines, rw (← c .before .before .before .before .before .count-pairs .ensures) (c .before .before .before .before .if1 .left))
+write-requires c κs = (c .before .before .before .before .before .before .before .before .before .before .load-pair .ensures .1 .0 .machines, rw (← c .before .before .before .before .before .pair-count .ensures) (c .before .before .before .before .if1 .left))
 
 slice-aggregate-mark-of : tie.Need-slice-aggregate-mark-of
 slice-aggregate-mark-of c = search needs
@@ -53,7 +53,7 @@ same-length : tie.Need-same-length
 same-length c = search needs
 
 returns-2 : tie.Need-returns-2
-returns-2 c = carried-out _ _ _ (c .before .before .before .before .before .before .before .before .before .before .before .before .before .before .before .before .before .before .before .before .before .pre .0) (c .before .before .before .before .before .before .before .before .before .before .before .before .before .before .before .before .before .before .before .before .before .pre .1) (c .before .before .before .before .before .before .before .before .before .before .before .before .before .before .before .before .load-pair .ensures .1 .0) _ (c .before .before .before .before .before .before .before .mode-of .ensures) _ _ (c .before .before .before .before .before .write .ensures .0) (rw (← pairs-are (c .before .before .before .before .before .before .before .before .before .before .before .before .before .before .before .before .load-pair .ensures .1 .0) (c .before .before .before .before .before .before .before .before .before .before .before .count-pairs .ensures)) (c .before .before .before .before .before .before .before .before .before .before .if1 .left)) (c .before .before .before .before .before .before .before .before .before .before .before .before .before .before .before .before .load-pair .ensures .0) (c .mark-of .ensures) _ (c .before .before .before .before .before .write .ensures .1)
+returns-2 c = carried-out _ _ _ (c .before .before .before .before .before .before .before .before .before .before .before .before .before .before .before .before .before .before .before .before .before .pre .0) (c .before .before .before .before .before .before .before .before .before .before .before .before .before .before .before .before .before .before .before .before .before .pre .1) (c .before .before .before .before .before .before .before .before .before .before .before .before .before .before .before .before .load-pair .ensures .1 .0) _ (c .before .before .before .before .before .before .before .mode-of .ensures) _ _ (c .before .before .before .before .before .write .ensures .0) (rw (← pairs-are (c .before .before .before .before .before .before .before .before .before .before .before .before .before .before .before .before .load-pair .ensures .1 .0) (c .before .before .before .before .before .before .before .before .before .before .before .pair-count .ensures)) (c .before .before .before .before .before .before .before .before .before .before .if1 .left)) (c .before .before .before .before .before .before .before .before .before .before .before .before .before .before .before .before .load-pair .ensures .0) (c .mark-of .ensures) _ (c .before .before .before .before .before .write .ensures .1)
 
 pub write-marks-spec : {M : Type 1} → statement M
 write-marks-spec =
@@ -62,9 +62,9 @@ write-marks-spec =
     slice-aggregate-load-pair
     slice-aggregate-load-pair-2
     load-pair-requires
-    slice-aggregate-count-pairs
-    slice-aggregate-count-pairs-2
-    count-pairs-requires
+    slice-aggregate-pair-count
+    slice-aggregate-pair-count-2
+    pair-count-requires
     new-requires
     returns
     slice-aggregate-write

@@ -17,29 +17,29 @@ slice-aggregate-load-pair-2 c = search needs
 load-pair-requires : tie.Need-load-pair-requires
 load-pair-requires c κs = (c .before .before .before .before .before .pre .0, omega arith, omega arith)
 
-slice-aggregate-count-pairs : tie.Need-slice-aggregate-count-pairs
-slice-aggregate-count-pairs c = search needs
+slice-aggregate-pair-count : tie.Need-slice-aggregate-pair-count
+slice-aggregate-pair-count c = search needs
 
-slice-aggregate-count-pairs-2 : tie.Need-slice-aggregate-count-pairs-2
-slice-aggregate-count-pairs-2 c = search needs
+slice-aggregate-pair-count-2 : tie.Need-slice-aggregate-pair-count-2
+slice-aggregate-pair-count-2 c = search needs
 
-count-pairs-requires : tie.Need-count-pairs-requires
-count-pairs-requires c κs = search needs
+pair-count-requires : tie.Need-pair-count-requires
+pair-count-requires c κs = search needs
 
 new-requires : tie.Need-new-requires
 new-requires c κs = search needs
 
 returns : tie.Need-returns
-returns c = rw (c .new .ensures) (run-turned-back _ _ _ (refuse 14 0) _ _ (decide-fault _ _ _ _ _ _ (short-fault _ _ _ (c .before .before .before .before .before .before .before .before .before .before .before .before .before .pre .0) (c .before .before .before .before .before .before .before .before .before .before .before .before .before .pre .1) _ (rw (← pairs-are (c .before .before .before .before .before .before .before .load-pair .ensures .1 .0) (c .before .before .count-pairs .ensures)) (c .before .if1 .taken)))))
+returns c = rw (c .new .ensures) (run-turned-back _ _ _ (refuse 14 0) _ _ (decide-fault _ _ _ _ _ _ (short-fault _ _ _ (c .before .before .before .before .before .before .before .before .before .before .before .before .before .pre .0) (c .before .before .before .before .before .before .before .before .before .before .before .before .before .pre .1) _ (rw (← pairs-are (c .before .before .before .before .before .before .before .load-pair .ensures .1 .0) (c .before .before .pair-count .ensures)) (c .before .if1 .taken)))))
 
 mul-if2 : tie.Need-mul-if2
-mul-if2 c = let few = pairs-few (c .before .before .before .before .before .before .load-pair .ensures .1 .0) (c .before .count-pairs .ensures) in omega arith
+mul-if2 c = let few = pairs-few (c .before .before .before .before .before .before .load-pair .ensures .1 .0) (c .before .pair-count .ensures) in omega arith
 
 new-requires-2 : tie.Need-new-requires-2
 new-requires-2 c κs = search needs
 
 returns-2 : tie.Need-returns-2
-returns-2 c = rw (c .new2 .ensures) (run-turned-back _ _ _ (refuse 14 0) _ _ (steps-fault _ _ _ (c .before .before .before .before .before .before .before .before .before .before .before .before .before .before .pre .0) (c .before .before .before .before .before .before .before .before .before .before .before .before .before .before .pre .1) _ (rw (← pairs-are (c .before .before .before .before .before .before .before .before .load-pair .ensures .1 .0) (c .before .before .before .count-pairs .ensures)) (c .before .before .if1 .left)) _ (rw (← pairs-are (c .before .before .before .before .before .before .before .before .load-pair .ensures .1 .0) (c .before .before .before .count-pairs .ensures)) (c .before .if2 .taken))))
+returns-2 c = rw (c .new2 .ensures) (run-turned-back _ _ _ (refuse 14 0) _ _ (steps-fault _ _ _ (c .before .before .before .before .before .before .before .before .before .before .before .before .before .before .pre .0) (c .before .before .before .before .before .before .before .before .before .before .before .before .before .before .pre .1) _ (rw (← pairs-are (c .before .before .before .before .before .before .before .before .load-pair .ensures .1 .0) (c .before .before .before .pair-count .ensures)) (c .before .before .if1 .left)) _ (rw (← pairs-are (c .before .before .before .before .before .before .before .before .load-pair .ensures .1 .0) (c .before .before .before .pair-count .ensures)) (c .before .if2 .taken))))
 
 slice-aggregate-write : tie.Need-slice-aggregate-write
 slice-aggregate-write c = search needs
@@ -51,7 +51,7 @@ mode-of-requires : tie.Need-mode-of-requires
 mode-of-requires c κs = search needs
 
 write-requires : tie.Need-write-requires
-write-requires c κs = run-starts _ _ _ (c .before .before .before .before .before .before .before .before .before .before .before .before .before .before .before .before .before .before .pre .0) (c .before .before .before .before .before .before .before .before .before .before .before .before .before .before .before .before .before .before .pre .1) (c .before .before .before .before .before .before .before .before .before .before .before .before .load-pair .ensures .1 .0) _ (c .before .before .mode-of .ensures) (c .before .before .before .before .before .before .before .before .before .before .before .before .load-pair .ensures .0) (rw (← pairs-are (c .before .before .before .before .before .before .before .before .before .before .before .before .load-pair .ensures .1 .0) (c .before .before .before .before .before .before .before .count-pairs .ensures)) (c .before .before .before .before .before .before .if1 .left)) (rw (← pairs-are (c .before .before .before .before .before .before .before .before .before .before .before .before .load-pair .ensures .1 .0) (c .before .before .before .before .before .before .before .count-pairs .ensures)) (c .before .before .before .before .before .if2 .left))
+write-requires c κs = run-starts _ _ _ (c .before .before .before .before .before .before .before .before .before .before .before .before .before .before .before .before .before .before .pre .0) (c .before .before .before .before .before .before .before .before .before .before .before .before .before .before .before .before .before .before .pre .1) (c .before .before .before .before .before .before .before .before .before .before .before .before .load-pair .ensures .1 .0) _ (c .before .before .mode-of .ensures) (c .before .before .before .before .before .before .before .before .before .before .before .before .load-pair .ensures .0) (rw (← pairs-are (c .before .before .before .before .before .before .before .before .before .before .before .before .load-pair .ensures .1 .0) (c .before .before .before .before .before .before .before .pair-count .ensures)) (c .before .before .before .before .before .before .if1 .left)) (rw (← pairs-are (c .before .before .before .before .before .before .before .before .before .before .before .before .load-pair .ensures .1 .0) (c .before .before .before .before .before .before .before .pair-count .ensures)) (c .before .before .before .before .before .if2 .left))
 
 cast-t19 : tie.Need-cast-t19
 cast-t19 c = search needs
@@ -63,7 +63,7 @@ same-length-2 : tie.Need-same-length-2
 same-length-2 c = search needs
 
 returns-3 : tie.Need-returns-3
-returns-3 c = run-carried-out _ _ _ (c .before .before .before .before .before .before .before .before .before .before .before .before .before .before .before .before .before .before .before .before .before .before .before .pre .0) (c .before .before .before .before .before .before .before .before .before .before .before .before .before .before .before .before .before .before .before .before .before .before .before .pre .1) (c .before .before .before .before .before .before .before .before .before .before .before .before .before .before .before .before .before .load-pair .ensures .1 .0) _ (c .before .before .before .before .before .before .before .mode-of .ensures) (c .before .before .before .before .before .before .before .before .before .before .before .before .before .before .before .before .before .load-pair .ensures .0) _ _ (rw (← pairs-are (c .before .before .before .before .before .before .before .before .before .before .before .before .before .before .before .before .before .load-pair .ensures .1 .0) (c .before .before .before .before .before .before .before .before .before .before .before .before .count-pairs .ensures)) (c .before .before .before .before .before .before .before .before .before .before .before .if1 .left)) (rw (← pairs-are (c .before .before .before .before .before .before .before .before .before .before .before .before .before .before .before .before .before .load-pair .ensures .1 .0) (c .before .before .before .before .before .before .before .before .before .before .before .before .count-pairs .ensures)) (c .before .before .before .before .before .before .before .before .before .before .if2 .left)) (c .before .before .before .before .write .ensures .1 .0) (c .before .before .before .before .write .ensures .0) (c .before .before .before .before .write .ensures .1 .1)
+returns-3 c = run-carried-out _ _ _ (c .before .before .before .before .before .before .before .before .before .before .before .before .before .before .before .before .before .before .before .before .before .before .before .pre .0) (c .before .before .before .before .before .before .before .before .before .before .before .before .before .before .before .before .before .before .before .before .before .before .before .pre .1) (c .before .before .before .before .before .before .before .before .before .before .before .before .before .before .before .before .before .load-pair .ensures .1 .0) _ (c .before .before .before .before .before .before .before .mode-of .ensures) (c .before .before .before .before .before .before .before .before .before .before .before .before .before .before .before .before .before .load-pair .ensures .0) _ _ (rw (← pairs-are (c .before .before .before .before .before .before .before .before .before .before .before .before .before .before .before .before .before .load-pair .ensures .1 .0) (c .before .before .before .before .before .before .before .before .before .before .before .before .pair-count .ensures)) (c .before .before .before .before .before .before .before .before .before .before .before .if1 .left)) (rw (← pairs-are (c .before .before .before .before .before .before .before .before .before .before .before .before .before .before .before .before .before .load-pair .ensures .1 .0) (c .before .before .before .before .before .before .before .before .before .before .before .before .pair-count .ensures)) (c .before .before .before .before .before .before .before .before .before .before .if2 .left)) (c .before .before .before .before .write .ensures .1 .0) (c .before .before .before .before .write .ensures .0) (c .before .before .before .before .write .ensures .1 .1)
 
 pub write-run-spec : {M : Type 1} → statement M
 write-run-spec =
@@ -72,9 +72,9 @@ write-run-spec =
     slice-aggregate-load-pair
     slice-aggregate-load-pair-2
     load-pair-requires
-    slice-aggregate-count-pairs
-    slice-aggregate-count-pairs-2
-    count-pairs-requires
+    slice-aggregate-pair-count
+    slice-aggregate-pair-count-2
+    pair-count-requires
     new-requires
     returns
     mul-if2

@@ -1,5 +1,5 @@
 -- `marks::responses::does_lead` meets its contract.
-use Rattle.marks.specs.Responses.{leads}
+use Rattle.marks.specs.Responses.{leadsToWanted}
 use borrow.Author.Needs.{needs}
 use Rattle.marks.proofs.responses.does_lead.Statement.{statement}
 use Rattle.marks.proofs.responses.does_lead.Tie as tie
@@ -11,7 +11,7 @@ is-wanted-requires : tie.Need-is-wanted-requires
 is-wanted-requires c κs = search needs
 
 returns : tie.Need-returns
-unfolding leads
+unfolding leadsToWanted
 returns c = rw (← c .before .mark-of .ensures) (c .is-wanted .ensures)
 
 pub does-lead-spec : {M : Type 1} → statement M

@@ -4,11 +4,11 @@ use borrow.Author.Needs.{needs}
 use Rattle.marks.proofs.responses.does_some_lead.Statement.{statement}
 use Rattle.marks.proofs.responses.does_some_lead.Tie as tie
 
-first-response-requires : tie.Need-first-response-requires
-first-response-requires c κs = search needs
+first-that-leads-requires : tie.Need-first-that-leads-requires
+first-that-leads-requires c κs = search needs
 
 returns : tie.Need-returns
-returns c = some-below _ _ (c .before .first-response .ensures)
+returns c = some-below _ _ (c .before .first-that-leads .ensures)
 
 pub does-some-lead-spec : {M : Type 1} → statement M
-does-some-lead-spec = tie.close (tie.spec first-response-requires returns)
+does-some-lead-spec = tie.close (tie.spec first-that-leads-requires returns)

@@ -1,17 +1,17 @@
--- `marks::responses::first_response` meets its contract. The invariant: no move before p passes.
+-- `marks::responses::first_that_leads` meets its contract. The invariant: no move before p passes.
 use Prim.Native.Nat.{_-_, _≤_, max}
 use mathlib.Core.Path.{refl}
 use mathlib.Core.Logic.{⊎-elim}
 use native.Mathlib.Omega.{arith}
 use Rattle.machines.proofs.RangeLaws.{NoneTo, none-start, none-next, found-at, ended-at}
-use Rattle.marks.specs.Responses.{responds}
+use Rattle.marks.specs.Responses.{maximalLeads}
 use Rattle.rules.proofs.Booleans.{and-none}
 use borrow.Author.Needs.{needs}
-use Rattle.marks.proofs.responses.first_response.Statement.{statement}
-use Rattle.marks.proofs.responses.first_response.Tie as tie
+use Rattle.marks.proofs.responses.first_that_leads.Statement.{statement}
+use Rattle.marks.proofs.responses.first_that_leads.Tie as tie
 
 abbrev Inv-loop : tie.InvT-loop
-Inv-loop demand task supply offer wanted marks end p₀ p = (p ≤ max p₀ end) × NoneTo (responds demand task supply offer wanted marks) demand p₀ p
+Inv-loop demand task supply offer wanted marks end p₀ p = (p ≤ max p₀ end) × NoneTo (maximalLeads demand task supply offer wanted marks) demand p₀ p
 
 abbrev μ-loop : tie.MeasureT-loop
 μ-loop demand task supply offer wanted marks end p₀ p = end - p
@@ -43,8 +43,8 @@ loop-again c = (omega arith, ⊎-elim (λ w. none-next (c .before .before .befor
 returns-2 : tie.Need-returns-2 Inv-loop μ-loop
 returns-2 c = ended-at _ (c .before .loop .inv .1) (omega arith) (omega arith)
 
-pub first-response-spec : {M : Type 1} → statement M
-first-response-spec =
+pub first-that-leads-spec : {M : Type 1} → statement M
+first-that-leads-spec =
     tie.close
     (tie.spec
     Inv-loop
