@@ -1,4 +1,4 @@
-// The file of tables: opening it, the body of a table, the readers of contents entries and body rows, and the writer of a body row.
+// The file of tables: opening it, the body of a table, the readers of contents entries, of a table's n and of body rows, and the writer of a body row.
 // What an accepted file guarantees is `Accepted` in specs, shown in proofs/AcceptedLaws. Relies on `rules` for rows and limits.
 ghost use mathlib.Core.Path.{_≡_};
 ghost use Rattle.tables.specs.Checks.{refuse};
