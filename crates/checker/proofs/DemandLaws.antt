@@ -15,22 +15,22 @@ use Rattle.rules.specs.Slices.{overwrite}
 use Rattle.rules.specs.Machines.{Machine, Sound}
 use Rattle.rules.specs.Relations.{Pairs, Passing, Meets}
 use Rattle.rules.specs.Rounds.{KeptSet, mark, markAt, marks, countPairs, keptCount, struckCount, rounds}
-use Rattle.rules.specs.Runs.{Free}
 use Rattle.rules.proofs.Booleans.{T-true, T-false, true-T, eq-T, and-i, and-l, and-r}
 use Rattle.rules.proofs.BelowLaws.{count-cong, max-cong, one-same}
 use Rattle.rules.proofs.RelationLaws.{holds-mono}
 use Rattle.rules.proofs.RoundLaws.{below-pair}
 use Rattle.rules.proofs.MarkLaws.{mark-zero, mark-round, kept-set-meets, kept-set-largest, rounds-struck}
-use Rattle.rules.proofs.RunLaws.{kept-free}
+use Rattle.rules.proofs.RunLaws.{kept-free, kept-schedulable}
 use Rattle.tables.specs.declared.Checked.{Checked}
-use Rattle.tables.specs.declared.Checked.the-variants.{Passed, Fault}
-use Rattle.tables.specs.Answers.{Answer, answer, carriedOut}
+use Rattle.tables.specs.declared.Checked.the-variants.{Passed}
+use Rattle.tables.specs.Answers.{carriedOut, sliceAfter}
+use Rattle.tables.proofs.CheckLaws.{passed}
 use Rattle.marks.specs.Responses.{HasMarks}
 use Rattle.marks.proofs.RoundLaws.{has-marks}
 use Rattle.checker.specs.declared.Question.{Question}
 use Rattle.checker.specs.declared.Decided.{Decided}
-use Rattle.checker.specs.Calls.{decided, sliceAfter}
-use Rattle.checker.specs.Pairs.{PairAccepted, demandOf, supplyOf}
+use Rattle.checker.specs.Calls.{decided}
+use Rattle.checker.specs.Pairs.{pairChecks, demandOf, supplyOf}
 use Rattle.checker.specs.Decide.{modeOf, decideChecks, decideAnswer, decideSlice}
 use Rattle.checker.specs.Demands.{KeptIn, MarksDemand, SecondDemand, ThirdDemand, ThirdDemandAll, DecideDemands}
 use Rattle.checker.proofs.PairLaws.{asked-demand, asked-supply, table-at-sound}
@@ -40,6 +40,7 @@ use Rattle.checker.proofs.DecideLaws.{decide-asked}
 
 pub marks-demand : (mode : Mode) (D S : Machine) (slice : List ℕ) → HasMarks mode D S slice → MarksDemand mode D S slice
 marks-demand mode D S slice marked = record {
+  room = marked .room;
   struck = λ k u w l m. (
     λ e. mark-round mode D S k u w .0 (sym (marked .each u w l m) ∙ e),
     λ r. marked .each u w l m ∙ mark-round mode D S k u w .1 r,
@@ -93,6 +94,7 @@ module _ (mode : Mode) (D S : Machine) (t s verdict kept highest : ℕ) (slice :
 
   pub third-all : ThirdDemandAll mode D S t s verdict kept slice
   third-all = record {
+    room = h .marked .room;
     rivals = rival-kept;
     ours = kept-meets;
     count = kept-counted;
@@ -127,6 +129,7 @@ module _ (mode : Mode) (D S : Machine) (t s verdict kept highest : ℕ) (slice :
 
   pub third : ThirdDemand mode D S t s verdict kept slice
   third = record {
+    room = h .marked .room;
     rivals = λ R. rival-kept (Passing R);
     ours = kept-meets;
     count = kept-counted;
@@ -150,28 +153,23 @@ module _ (mode : Mode) (D S : Machine) (t s verdict kept highest : ℕ) (slice :
 
   pub second : Sound D → Sound S → SecondDemand mode D S t s verdict highest slice
   second sd ss = record {
-    full-yes = by-runs;
+    full-yes = λ e. (λ y. kept-free D S sd ss t s (h .start .0) (h .start .1) .0 (marked-0 e y), λ f. marked-yes e (kept-free D S sd ss t s (h .start .0) (h .start .1) .1 f));
+    schedulable = λ e. (
+      λ y. kept-schedulable D S sd ss t s (h .start .0) (h .start .1) .0 (marked-0 e y),
+      λ f. marked-yes e (kept-schedulable D S sd ss t s (h .start .0) (h .start .1) .1 f),
+    );
     marks = marks-demand mode D S slice (h .marked);
     highest = highest-mark;
     few-rounds = few;
   }
     where
-      by-runs : mode ≡ Full → (verdict ≡ 1) ↔ Free D S t s
-      by-runs e = (
-        λ y. kept-free D S sd ss t s (h .start .0) (h .start .1) .0 (subst (λ (m : Mode). mark m D S t s ≡ 0) e (from-kept t s (yes-kept y) .2)),
-        λ f. kept-yes (to-kept t s (
-          h .start .0,
-          h .start .1,
-          subst (λ (m : Mode). mark m D S t s ≡ 0) (sym e) (kept-free D S sd ss t s (h .start .0) (h .start .1) .1 f),
-        )),
-      )
+      marked-0 : mode ≡ Full → verdict ≡ 1 → mark Full D S t s ≡ 0
+      marked-0 e y = subst (λ (m : Mode). mark m D S t s ≡ 0) e (from-kept t s (yes-kept y) .2)
+
+      marked-yes : mode ≡ Full → mark Full D S t s ≡ 0 → verdict ≡ 1
+      marked-yes e z = kept-yes (to-kept t s (h .start .0, h .start .1, subst (λ (m : Mode). mark m D S t s ≡ 0) (sym e) z))
 
 -- ---- of a call
-
--- a call that returns values passed its checks
-pub passed : (c : Checked) (x : ℕ) (xs values : List ℕ) → answer c values ≡ carriedOut (x ∷ xs) → (c ≡ Passed) × (values ≡ x ∷ xs)
-passed Passed x xs values e = (refl, ap (λ (a : Answer). a .values) e)
-passed (Fault r) x xs values e = let none : 0 ≡ suc (length xs) = ap (λ (a : Answer). length (a .values)) e in absurd (omega arith)
 
 module _ (file : List ℕ) (q : Question) (mode : ℕ) (entry exit : List ℕ) (left : exit ≡ decideSlice file q mode entry)
     (verdict kept highest : ℕ) (told : decideAnswer file q mode (length entry) ≡ carriedOut (verdict ∷ kept ∷ highest ∷ [])) where
@@ -186,11 +184,11 @@ module _ (file : List ℕ) (q : Question) (mode : ℕ) (entry exit : List ℕ) (
   unfolding decideAnswer
   outcome = passed (decideChecks file q mode (length entry)) _ _ _ told
 
-  asked : PairAccepted file q
+  asked : pairChecks file q ≡ Passed
   asked = decide-asked file q mode (length entry) (outcome .0)
 
   written : exit ≡ overwrite (marks (modeOf mode) D S) entry
-  unfolding decideSlice
+  unfolding decideSlice sliceAfter
   written = left ∙ ap (λ (c : Checked). sliceAfter c (overwrite (marks (modeOf mode) D S) entry) entry) (outcome .0)
 
   tells : Tells (modeOf mode) D S (q .demand .state) (q .supply .state) verdict kept highest exit

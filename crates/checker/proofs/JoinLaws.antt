@@ -2,11 +2,9 @@
 -- of rows in body form, and of tables that a call names.
 use Prim.Native.Nat.{ℕ, _*_, _≤_, _<_}
 use mathlib.Core.Path.{_≡_, refl, sym, ap, ap₂, _∙_, subst, subst₂}
-use mathlib.Core.Bool.{Bool, true, false, cond}
 use mathlib.Core.List.{List, [], _∷_, List·Memᴰ}
 use mathlib.Core.Logic.{_↔_}
 use native.Mathlib.Omega.{arith}
-use lib.Dec.{ltb}
 use lib.ListN.{length, getD, take, drop}
 use lib.Arith.{digits-lt}
 use lib.Seq.{take-append-seam}
@@ -18,133 +16,97 @@ use Rattle.rules.specs.Actions.{tasks, _∥_}
 use Rattle.rules.specs.Join.{joinState, join, IsJoinRow}
 use Rattle.rules.proofs.MachineLaws.{fin-moves}
 use Rattle.rules.proofs.JoinLaws.{join-rises, join-rows, join-from, join-target, join-parallel}
-use Rattle.tables.specs.declared.Refusal.{Refusal}
 use Rattle.tables.specs.declared.Checked.{Checked}
-use Rattle.tables.specs.declared.Checked.the-variants.{Passed, Fault}
-use Rattle.tables.specs.declared.Opened.{Opened}
-use Rattle.tables.specs.declared.Opened.the-variants.{Tables, Refused}
-use Rattle.tables.specs.Checks.{refuse, fault, _then_}
-use Rattle.tables.specs.Answers.{Answer, turnedBack, carriedOut, opened}
+use Rattle.tables.specs.declared.Checked.the-variants.{Passed}
+use Rattle.tables.specs.Checks.{refuse, _then_}
+use Rattle.tables.specs.Answers.{Answer, turnedBack, carriedOut, sliceAfter}
 use Rattle.tables.specs.File.{tablesOf, bodyBytes}
-use Rattle.tables.specs.Open.{openOf}
 use Rattle.tables.specs.Accepted.{TableBody, Accepted}
 use Rattle.tables.specs.Tables.{rowsOf, tableOf, machineOf}
-use Rattle.tables.proofs.CheckLaws.{fault-passed, then-left, then-right}
-use Rattle.tables.proofs.AcceptedLaws.{tables-passed, refused-fault, passed-accepted}
+use Rattle.tables.proofs.CheckLaws.{fault-passed, then-left, then-right, carried-out, passed, turned-whatever}
+use Rattle.tables.proofs.AcceptedLaws.{passed-accepted}
 use Rattle.tables.proofs.RowLaws.{length-bytes, bytes-rows, bytes-body}
 use Rattle.machines.specs.Memory.{statesIn, machineIn, InMemory}
 use Rattle.joins.specs.declared.Written.{Written}
 use Rattle.joins.specs.declared.Written.the-variants.{Count, TooMany, NoRoom}
-use Rattle.joins.specs.Joins.{TwoDemands, rowsIn, written, bytesAfter}
+use Rattle.joins.specs.Joins.{TwoDemands, rowsIn, written, rowsChecks, rowsAnswer, rowsSlice}
 use Rattle.checker.specs.declared.Joined.{Joined}
-use Rattle.checker.specs.Calls.{joined, sliceAfter}
-use Rattle.checker.specs.Join.{joinFault, JoinAccepted, joinOf, joinChecks, joinAnswer, joinSlice, IsJoin, JoinDemands}
-use Rattle.checker.proofs.PairLaws.{TableAt, table-at, table-at-sound, first-named, second-named, loaded-plain}
-use Rattle.checker.proofs.DemandLaws.{passed}
+use Rattle.checker.specs.Calls.{joined}
+use Rattle.checker.specs.Named.{namedChecks, asDemand}
+use Rattle.checker.specs.Join.{sizeChecks, joinOf, joinChecks, joinAnswer, joinSlice, IsJoin, JoinDemands}
+use Rattle.checker.proofs.PairLaws.{TableAt, table-at, table-at-sound, file-passed, first-named, second-named, loaded-plain}
 
--- ---- what the checks find
-
-module _ (s : List ℕ) (i j : ℕ) where
-  module _ (o : Opened) (e : opened o ≡ openOf s) where
-    pub join-refused : (r : Refusal) (room : ℕ) → o ≡ Refused r → joinChecks s i j room ≡ Fault r
-    unfolding joinChecks _then_
-    join-refused r room p = rw (refused-fault s r (rw p at e)) refl
-
-    module _ (k : ℕ) (c : Checked) (p : o ≡ Tables k) (f : c ≡ joinFault s k i j) where
-      pub join-fault : (r : Refusal) (room : ℕ) → c ≡ Fault r → joinChecks s i j room ≡ Fault r
-      unfolding joinChecks _then_
-      join-fault r room g = let (file, tables) = tables-passed s k (rw p at e) in rw (file, tables, sym f ∙ g) refl
-
-      pub join-asked : c ≡ Passed → JoinAccepted s i j
-      join-asked g =
-          let (file, tables) = tables-passed s k (rw p at e) in
-          record { file = file; tables = ap (λ (x : ℕ). joinFault s x i j) tables ∙ sym f ∙ g }
-
-  -- turned back: the refusal is the answer, and the bytes are unchanged
-  pub turned-back : (r : Refusal) (entry : List ℕ) → joinChecks s i j (length entry) ≡ Fault r
-      → (turnedBack r ≡ joinAnswer s i j (length entry)) × (entry ≡ joinSlice s i j entry)
-  unfolding joinAnswer joinSlice
-  turned-back r entry e = (rw e refl, rw e refl)
-
+module _ (s : List ℕ) (i j : ℕ) (a : sizeChecks s i j ≡ Passed) where
   -- ---- the two tables
 
-  module _ (a : JoinAccepted s i j) where
-    -- each is in the file, and has a state 0
-    some-state : (x : ℕ) → x < tablesOf s → 0 < tableOf s x .n
-    some-state x l = let t : Accepted s (tablesOf s) = passed-accepted s (a .file) in let some = t .table x l .some-state in omega arith
+  named : namedChecks s (asDemand i) (asDemand j) ≡ Passed
+  unfolding sizeChecks
+  named = then-left _ _ a
 
-    pub first-at : TableAt s i 0
-    unfolding joinFault
-    first-at = let l = first-named s (tablesOf s) _ _ (then-left _ _ (a .tables)) in table-at s i 0 (a .file) l (some-state i l)
+  -- each is in the file, and has a state 0
+  some-state : (x : ℕ) → x < tablesOf s → 0 < tableOf s x .n
+  some-state x l = let t : Accepted s (tablesOf s) = passed-accepted s (file-passed s _ _ named) in let some = t .table x l .some-state in omega arith
 
-    pub second-at : TableAt s j 0
-    unfolding joinFault
-    second-at = let l = second-named s (tablesOf s) _ _ (then-left _ _ (a .tables)) in table-at s j 0 (a .file) l (some-state j l)
+  pub first-at : TableAt s i 0
+  first-at = let l = first-named s _ _ named in table-at s i 0 (file-passed s _ _ named) l (some-state i l)
 
-    pub states-few : tableOf s i .n * tableOf s j .n ≤ 64
-    unfolding joinFault
-    states-few = ltb-false 64 _ (fault-passed _ _ _ (then-right _ _ (a .tables)))
+  pub second-at : TableAt s j 0
+  second-at = let l = second-named s _ _ named in table-at s j 0 (file-passed s _ _ named) l (some-state j l)
 
-    -- the machines, as they are loaded
-    module _ (one : List ℕ) (e : machineIn one ≡ widen 0 (machineOf s i)) (two : List ℕ) (f : machineIn two ≡ widen 0 (machineOf s j)) where
-      first-is : machineIn one ≡ machineOf s i
-      first-is = loaded-plain s i one e
+  pub states-few : tableOf s i .n * tableOf s j .n ≤ 64
+  unfolding sizeChecks
+  states-few = ltb-false 64 _ (fault-passed _ _ _ (then-right _ _ a))
 
-      second-is : machineIn two ≡ machineOf s j
-      second-is = loaded-plain s j two f
+  -- the machines, as they are loaded
+  module _ (one : List ℕ) (e : machineIn one ≡ widen 0 (machineOf s i)) (two : List ℕ) (f : machineIn two ≡ widen 0 (machineOf s j)) where
+    first-is : machineIn one ≡ machineOf s i
+    first-is = loaded-plain s i one e
 
-      -- as many pairs as they have
-      pub product-is : {pairs : ℕ} → pairs ≡ statesIn one * statesIn two → pairs ≡ tableOf s i .n * tableOf s j .n
-      product-is g = g ∙ ap₂ (λ (D E : Machine). D .n * E .n) first-is second-is
+    second-is : machineIn two ≡ machineOf s j
+    second-is = loaded-plain s j two f
 
-      pub two-demands : InMemory one → InMemory two → TwoDemands one two
-      two-demands x y = record { first-machine = x; second-machine = y; few = rw (product-is refl) states-few }
+    -- as many pairs as they have
+    pub product-is : {pairs : ℕ} → pairs ≡ statesIn one * statesIn two → pairs ≡ tableOf s i .n * tableOf s j .n
+    product-is g = g ∙ ap₂ (λ (D E : Machine). D .n * E .n) first-is second-is
 
-      -- their rows are those of the joined table
-      pub rows-found : rowsIn one two ≡ joinOf s i j .rows
-      rows-found = ap₂ (λ (x y : Machine). join x y .rows) first-is second-is
+    pub two-demands : InMemory one → InMemory two → TwoDemands one two
+    two-demands x y = record { first-machine = x; second-machine = y; few = rw (product-is refl) states-few }
 
-    -- ---- what writing comes to
+    -- their rows are those of the joined table
+    pub rows-found : rowsIn one two ≡ joinOf s i j .rows
+    rows-found = ap₂ (λ (x y : Machine). join x y .rows) first-is second-is
 
-    module _ (room : ℕ) where
-      decided-by : (many short : Bool) → ltb 512 (length (joinOf s i j .rows)) ≡ many → ltb room (4 * length (joinOf s i j .rows)) ≡ short
-          → joinChecks s i j room ≡ cond many (Fault (refuse 17 0)) (cond short (Fault (refuse 14 0)) Passed)
-      unfolding joinChecks _then_ fault
-      decided-by true short p q = rw (a .file, a .tables, p) refl
-      decided-by false true p q = rw (a .file, a .tables, p, q) refl
-      decided-by false false p q = rw (a .file, a .tables, p, q) refl
+  -- ---- what writing comes to
 
-    -- the answer that writing gives to a joined table of n states
-    abbrev answerOf : ℕ → Written → Answer
-    answerOf n (Count m) = carriedOut (n ∷ m ∷ [])
-    answerOf n TooMany = turnedBack (refuse 17 0)
-    answerOf n NoRoom = turnedBack (refuse 14 0)
+  -- the answer that writing gives to a joined table of n states
+  abbrev answerOf : ℕ → Written → Answer
+  answerOf n (Count m) = carriedOut (n ∷ m ∷ [])
+  answerOf n TooMany = turnedBack (refuse 17 0)
+  answerOf n NoRoom = turnedBack (refuse 14 0)
 
-    module _ (n : ℕ) (product : n ≡ tableOf s i .n * tableOf s j .n) (entry exit : List ℕ) (rows : List Row) (found : rows ≡ joinOf s i j .rows)
-        (w : Written) (told : w ≡ written rows (length entry)) (left : exit ≡ bytesAfter rows entry) where
-      abbrev Answered : Answer → List ℕ → Type 0
-      Answered x y = (x ≡ joinAnswer s i j (length entry)) × (y ≡ joinSlice s i j entry)
+  -- the rows decide
+  rows-decide : (room : ℕ) → joinChecks s i j room ≡ rowsChecks (joinOf s i j .rows) room
+  unfolding joinChecks _then_
+  rows-decide room = rw a refl
 
-      all-cases : Answered (answerOf n (written (joinOf s i j .rows) (length entry))) (bytesAfter (joinOf s i j .rows) entry)
-      unfolding written bytesAfter joinAnswer joinSlice
-      all-cases = go (ltb 512 (length list)) (ltb (length entry) (4 * length list)) refl refl
-        where
-          list : List Row
-          list = joinOf s i j .rows
+  by-rows : (room n : ℕ) → n ≡ tableOf s i .n * tableOf s j .n → (w : Written) → written w ≡ rowsAnswer (joinOf s i j .rows) room → answerOf n w ≡ joinAnswer s i j room
+  unfolding joinAnswer rowsAnswer
+  by-rows room n product (Count m) e =
+      let (passes, values) = passed (rowsChecks (joinOf s i j .rows) room) m [] (length (joinOf s i j .rows) ∷ []) (sym e) in
+      let told = carried-out (rowsChecks (joinOf s i j .rows) room) (tableOf s i .n * tableOf s j .n ∷ length (joinOf s i j .rows) ∷ []) [] [] passes in
+      rw (rows-decide room) (ap₂ (λ (x y : ℕ). carriedOut (x ∷ y ∷ [])) product (sym (ap (λ (l : List ℕ). getD l 0 0) values)) ∙ told .0)
+  by-rows room n product TooMany e = rw (rows-decide room) (turned-whatever _ (refuse 17 0) _ _ _ e)
+  by-rows room n product NoRoom e = rw (rows-decide room) (turned-whatever _ (refuse 14 0) _ _ _ e)
 
-          go : (many short : Bool) → ltb 512 (length (joinOf s i j .rows)) ≡ many → ltb (length entry) (4 * length (joinOf s i j .rows)) ≡ short
-              → Answered (answerOf n (cond many TooMany (cond short NoRoom (Count (length (joinOf s i j .rows)))))) (cond many entry (cond short entry (overwrite (bodyBytes (joinOf s i j .rows)) entry)))
-          go true short p q = let e = decided-by (length entry) true short p q in (rw e refl, rw e refl)
-          go false true p q = let e = decided-by (length entry) false true p q in (rw e refl, rw e refl)
-          go false false p q =
-              let e = decided-by (length entry) false false p q in
-              (rw e (ap (λ (x : ℕ). carriedOut (x ∷ length (joinOf s i j .rows) ∷ [])) product), rw e refl)
-
-      pub write-answers : {v : Written} → w ≡ v → Answered (answerOf n v) exit
-      write-answers e =
-          subst₂ (λ (x : Written) (y : List ℕ). Answered (answerOf n x) y)
-          (sym (ap (λ (z : List Row). written z (length entry)) found) ∙ sym told ∙ e)
-          (sym (ap (λ (z : List Row). bytesAfter z entry) found) ∙ sym left) all-cases
+  pub write-answers : (n : ℕ) → n ≡ tableOf s i .n * tableOf s j .n → (entry exit : List ℕ) (rows : List Row) → rows ≡ joinOf s i j .rows
+      → {w v : Written} → written w ≡ rowsAnswer rows (length entry) → exit ≡ rowsSlice rows entry → w ≡ v
+      → (answerOf n v ≡ joinAnswer s i j (length entry)) × (exit ≡ joinSlice s i j entry)
+  unfolding joinSlice rowsSlice
+  write-answers n product entry exit rows found {w} {v} told left e = (
+    by-rows (length entry) n product v (ap written (sym e) ∙ told ∙ ap (λ (z : List Row). rowsAnswer z (length entry)) found),
+    left ∙ ap (λ (z : List Row). sliceAfter (rowsChecks z (length entry)) (overwrite (bodyBytes z) entry) entry) found
+    ∙ ap (λ (c : Checked). sliceAfter c (overwrite (bodyBytes (joinOf s i j .rows)) entry) entry) (sym (rows-decide (length entry))),
+  )
 
 -- ---- what is written
 
@@ -163,13 +125,13 @@ module _ (s : List ℕ) (i j : ℕ) (entry exit : List ℕ) (left : exit ≡ joi
   unfolding joinAnswer
   outcome = passed (joinChecks s i j (length entry)) _ _ _ told
 
-  asked : JoinAccepted s i j
+  asked : sizeChecks s i j ≡ Passed
   unfolding joinChecks
-  asked = record { file = then-left _ _ (outcome .0); tables = then-left _ _ (then-right _ _ (outcome .0)) }
+  asked = then-left _ _ (outcome .0)
 
   few-rows : length rows ≤ 512
-  unfolding joinChecks
-  few-rows = ltb-false 512 (length rows) (fault-passed _ _ _ (then-left _ _ (then-right _ _ (then-right _ _ (outcome .0)))))
+  unfolding joinChecks rowsChecks
+  few-rows = ltb-false 512 (length rows) (fault-passed _ _ _ (then-left _ _ (then-right _ _ (outcome .0))))
 
   n-is : n ≡ D .n * E .n
   n-is = sym (ap (λ (l : List ℕ). getD l 0 0) (outcome .1))
@@ -178,7 +140,7 @@ module _ (s : List ℕ) (i j : ℕ) (entry exit : List ℕ) (left : exit ≡ joi
   m-is = sym (ap (λ (l : List ℕ). getD l 1 0) (outcome .1))
 
   bytes-are : take (4 * m) exit ≡ bodyBytes rows
-  unfolding joinSlice overwrite
+  unfolding joinSlice overwrite sliceAfter
   bytes-are =
       let long : 4 * m ≡ length (bodyBytes rows) = ap (λ (x : ℕ). 4 * x) m-is ∙ sym (length-bytes rows) in
       ap₂ take long (left ∙ ap (λ (c : Checked). sliceAfter c (overwrite (bodyBytes rows) entry) entry) (outcome .0))

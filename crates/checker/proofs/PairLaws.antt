@@ -1,6 +1,6 @@
--- Laws of questions about a pair: what turns them back, and the two machines where nothing does. Relies on what Open guarantees.
+-- Laws of questions about a pair that nothing turns back: the two tables, and their machines, loaded. Relies on what Open guarantees.
 use Prim.Native.Nat.{ℕ, _+_, _*_, _≤_, _<_}
-use mathlib.Core.Path.{_≡_, sym, ap, ap₂, _∙_}
+use mathlib.Core.Path.{_≡_, ap₂, _∙_}
 use mathlib.Core.List.{List}
 use native.Mathlib.Omega.{arith}
 use lib.ListN.{length}
@@ -8,50 +8,20 @@ use borrow.Author.Tests.{leb-false}
 use Rattle.rules.specs.Machines.{Machine, Sound, widen}
 use Rattle.rules.proofs.BelowLaws.{few-pairs}
 use Rattle.rules.proofs.MachineLaws.{widen-none}
-use Rattle.tables.specs.declared.Refusal.{Refusal}
-use Rattle.tables.specs.declared.Checked.{Checked}
-use Rattle.tables.specs.declared.Checked.the-variants.{Passed, Fault}
-use Rattle.tables.specs.declared.Opened.{Opened}
-use Rattle.tables.specs.declared.Opened.the-variants.{Tables, Refused}
-use Rattle.tables.specs.Checks.{_then_}
-use Rattle.tables.specs.Answers.{opened}
+use Rattle.tables.specs.declared.Checked.the-variants.{Passed}
 use Rattle.tables.specs.File.{tablesOf, entryOf, bodyLength, bodyOf}
-use Rattle.tables.specs.Open.{openOf, fileFault}
+use Rattle.tables.specs.Open.{fileFault}
 use Rattle.tables.specs.Accepted.{TableBody, Accepted}
 use Rattle.tables.specs.Tables.{tableOf, machineOf}
 use Rattle.tables.proofs.CheckLaws.{fault-passed, then-left, then-right}
-use Rattle.tables.proofs.AcceptedLaws.{tables-passed, refused-fault, passed-accepted, accepted-laid}
+use Rattle.tables.proofs.AcceptedLaws.{passed-accepted, accepted-laid}
 use Rattle.tables.proofs.TableLaws.{body-sound}
 use Rattle.machines.specs.Memory.{statesIn, machineIn, InMemory}
 use Rattle.machines.specs.Load.{LoadsTable}
 use Rattle.checker.specs.declared.Question.{Question}
 use Rattle.checker.specs.declared.named.Named.{Named}
-use Rattle.checker.specs.Named.{namedFault}
-use Rattle.checker.specs.Pairs.{pairFault, pairChecks, PairAccepted, demandOf, supplyOf, PairLoaded}
-
--- ---- what the checks find
-
-module _ (s : List ℕ) (q : Question) (o : Opened) (e : opened o ≡ openOf s) where
-  pub pair-refused : (r : Refusal) → o ≡ Refused r → pairChecks s q ≡ Fault r
-  unfolding pairChecks _then_
-  pair-refused r p = rw (refused-fault s r (rw p at e))
-
-  pub pair-fault : (k : ℕ) (c : Checked) (r : Refusal) → o ≡ Tables k → c ≡ pairFault s k q → c ≡ Fault r → pairChecks s q ≡ Fault r
-  unfolding pairChecks _then_
-  pair-fault k c r p f g = let t = tables-passed s k (rw p at e) in rw (t .0, t .1) (sym f ∙ g)
-
-  pub pair-asked : (k : ℕ) (c : Checked) → o ≡ Tables k → c ≡ pairFault s k q → c ≡ Passed → PairAccepted s q
-  pair-asked k c p f g =
-      let t = tables-passed s k (rw p at e) in
-      record { file = t .0; pair = ap (λ (x : ℕ). pairFault s x q) (t .1) ∙ sym f ∙ g }
-
-pub checks-asked : (s : List ℕ) (q : Question) → pairChecks s q ≡ Passed → PairAccepted s q
-unfolding pairChecks
-checks-asked s q e = record { file = then-left _ _ e; pair = then-right _ _ e }
-
-pub asked-checks : (s : List ℕ) (q : Question) → PairAccepted s q → pairChecks s q ≡ Passed
-unfolding pairChecks _then_
-asked-checks s q a = rw (a .file) (a .pair)
+use Rattle.checker.specs.Named.{namedChecks, asDemand, asSupply}
+use Rattle.checker.specs.Pairs.{pairChecks, demandOf, supplyOf, PairLoaded}
 
 -- ---- a table that was asked about
 
@@ -70,27 +40,35 @@ pub table-at-sound : (s : List ℕ) (i q : ℕ) → TableAt s i q → Sound (mac
 table-at-sound s i q t = body-sound (entryOf s i .states) (entryOf s i .rows) (bodyOf s i) (t .table)
 
 -- of two tables that a call names, both are in the file
-module _ (s : List ℕ) (k : ℕ) (x y : Named) (e : namedFault s k x y ≡ Passed) where
-  pub first-named : x .table < k
-  unfolding namedFault
-  first-named = leb-false _ _ (fault-passed _ _ _ (then-left _ _ e))
+module _ (s : List ℕ) (x y : Named) (e : namedChecks s x y ≡ Passed) where
+  pub file-passed : fileFault s ≡ Passed
+  unfolding namedChecks
+  file-passed = then-left _ _ e
 
-  pub second-named : y .table < k
-  unfolding namedFault
-  second-named = leb-false _ _ (fault-passed _ _ _ (then-left _ _ (then-right _ _ e)))
+  pub first-named : x .table < tablesOf s
+  unfolding namedChecks
+  first-named = leb-false _ _ (fault-passed _ _ _ (then-left _ _ (then-right _ _ e)))
 
-module _ (s : List ℕ) (q : Question) (a : PairAccepted s q) where
+  pub second-named : y .table < tablesOf s
+  unfolding namedChecks
+  second-named = leb-false _ _ (fault-passed _ _ _ (then-left _ _ (then-right _ _ (then-right _ _ e))))
+
+module _ (s : List ℕ) (q : Question) (a : pairChecks s q ≡ Passed) where
+  tables-named : namedChecks s (asDemand (q .demand .table)) (asSupply (q .supply .table)) ≡ Passed
+  unfolding pairChecks
+  tables-named = then-left _ _ a
+
   pub asked-demand : TableAt s (q .demand .table) (q .demand .state)
-  unfolding pairFault
+  unfolding pairChecks
   asked-demand =
-      table-at s (q .demand .table) (q .demand .state) (a .file) (first-named s (tablesOf s) _ _ (then-left _ _ (a .pair)))
-      (leb-false _ _ (fault-passed _ _ _ (then-left _ _ (then-right _ _ (a .pair)))))
+      table-at s (q .demand .table) (q .demand .state) (file-passed s _ _ tables-named) (first-named s _ _ tables-named)
+      (leb-false _ _ (fault-passed _ _ _ (then-left _ _ (then-right _ _ a))))
 
   pub asked-supply : TableAt s (q .supply .table) (q .supply .state)
-  unfolding pairFault
+  unfolding pairChecks
   asked-supply =
-      table-at s (q .supply .table) (q .supply .state) (a .file) (second-named s (tablesOf s) _ _ (then-left _ _ (a .pair)))
-      (leb-false _ _ (fault-passed _ _ _ (then-right _ _ (then-right _ _ (a .pair)))))
+      table-at s (q .supply .table) (q .supply .state) (file-passed s _ _ tables-named) (second-named s _ _ tables-named)
+      (leb-false _ _ (fault-passed _ _ _ (then-right _ _ (then-right _ _ a))))
 
 -- ---- its machine, loaded
 

@@ -17,55 +17,56 @@ use Rattle.tables.specs.declared.Refusal.{Refusal}
 use Rattle.tables.specs.declared.Checked.{Checked}
 use Rattle.tables.specs.declared.Checked.the-variants.{Passed, Fault}
 use Rattle.tables.specs.Checks.{refuse, fault, _then_}
-use Rattle.tables.specs.Answers.{turnedBack, carriedOut}
+use Rattle.tables.specs.Answers.{answer, turnedBack, carriedOut, sliceAfter}
 use Rattle.tables.specs.Tables.{tableOf}
-use Rattle.tables.proofs.CheckLaws.{then-left}
+use Rattle.tables.proofs.CheckLaws.{then-left, then-fault, turned-back, passed}
 use Rattle.marks.specs.InPlace.{marksIn}
 use Rattle.marks.proofs.RoundLaws.{has-marks}
 use Rattle.runs.specs.Walks.{RunStarts, markFrom, stepsFrom}
 use Rattle.checker.specs.declared.Question.{Question}
 use Rattle.checker.specs.declared.Counted.{Counted}
-use Rattle.checker.specs.Calls.{counted, sliceAfter}
-use Rattle.checker.specs.Pairs.{PairAccepted, demandOf, supplyOf, pairOf, PairLoaded}
-use Rattle.checker.specs.Decide.{modeOf, decideChecks}
+use Rattle.checker.specs.Calls.{counted}
+use Rattle.checker.specs.Pairs.{pairChecks, demandOf, supplyOf, pairOf, PairLoaded}
+use Rattle.checker.specs.Decide.{modeOf, modeChecks, decideChecks}
 use Rattle.checker.specs.Run.{runChecks, runAnswer, runMarks, runSteps}
 use Rattle.checker.specs.Demands.{RunDemand, RunDemands}
 use Rattle.checker.proofs.PairLaws.{asked-demand, asked-supply, table-at-sound, pairs-are}
-use Rattle.checker.proofs.DecideLaws.{decide-asked, none-fault}
-use Rattle.checker.proofs.DemandLaws.{marks-demand, passed}
+use Rattle.checker.proofs.DecideLaws.{mode-asked, decide-asked, none-fault}
+use Rattle.checker.proofs.DemandLaws.{marks-demand}
 
-module _ (s : List ℕ) (q : Question) (mode : ℕ) where
-  -- as Decide
-  pub decide-fault : (r : Refusal) (room more : ℕ) → decideChecks s q mode room ≡ Fault r → runChecks s q mode room more ≡ Fault r
-  unfolding runChecks _then_
-  decide-fault r room more e = rw e refl
+-- turned back: the second slice is unchanged too
+pub run-turned-back : (s : List ℕ) (q : Question) (mode : ℕ) (r : Refusal) (first second : List ℕ) → runChecks s q mode (length first) (length second) ≡ Fault r
+    → (turnedBack r ≡ runAnswer s q mode (length first) (length second)) × ((first ≡ runMarks s q mode first (length second)) × (second ≡ runSteps s q mode (length first) second))
+unfolding runAnswer runMarks runSteps
+run-turned-back s q mode r first second e =
+    let (told, marks) = turned-back _ r (mark (modeOf mode) (demandOf s q) (supplyOf s q) (q .demand .state) (q .supply .state) ∷ []) _ first e in
+    (told, (marks, turned-back _ r [] _ second e .1))
 
-  -- turned back: the refusal is the answer, and both slices are unchanged
-  pub run-turned-back : (r : Refusal) (first second : List ℕ) → runChecks s q mode (length first) (length second) ≡ Fault r
-      → (turnedBack r ≡ runAnswer s q mode (length first) (length second)) × ((first ≡ runMarks s q mode first (length second)) × (second ≡ runSteps s q mode (length first) second))
-  unfolding runAnswer runMarks runSteps
-  run-turned-back r first second e = (rw e refl, (rw e refl, rw e refl))
+-- as Decide
+pub decide-fault : (s : List ℕ) (q : Question) (mode : ℕ) (r : Refusal) (room more : ℕ) → decideChecks s q mode room ≡ Fault r → runChecks s q mode room more ≡ Fault r
+unfolding runChecks
+decide-fault s q mode r room more e = then-fault _ _ r e
 
-  module _ (a : PairAccepted s q) (known : mode ≤ 1) (room : ℕ) (long : demandOf s q .n * supplyOf s q .n ≤ room) where
-    pub steps-fault : (more : ℕ) → more < 2 * (demandOf s q .n * supplyOf s q .n) → runChecks s q mode room more ≡ Fault (refuse 14 0)
-    unfolding runChecks _then_ fault
-    steps-fault more l = rw (none-fault s q mode a known room long, lt-ltb more (2 * (demandOf s q .n * supplyOf s q .n)) l) refl
+module _ (s : List ℕ) (q : Question) (mode : ℕ) (a : modeChecks s q mode ≡ Passed) (room : ℕ) (long : demandOf s q .n * supplyOf s q .n ≤ room) where
+  pub steps-fault : (more : ℕ) → more < 2 * (demandOf s q .n * supplyOf s q .n) → runChecks s q mode room more ≡ Fault (refuse 14 0)
+  unfolding runChecks _then_ fault
+  steps-fault more l = rw (none-fault s q mode a room long, lt-ltb more (2 * (demandOf s q .n * supplyOf s q .n)) l) refl
 
-    pub no-fault : (more : ℕ) → 2 * (demandOf s q .n * supplyOf s q .n) ≤ more → runChecks s q mode room more ≡ Passed
-    unfolding runChecks _then_ fault
-    no-fault more l = rw (none-fault s q mode a known room long, le-ltb more (2 * (demandOf s q .n * supplyOf s q .n)) l) refl
+  pub no-fault : (more : ℕ) → 2 * (demandOf s q .n * supplyOf s q .n) ≤ more → runChecks s q mode room more ≡ Passed
+  unfolding runChecks _then_ fault
+  no-fault more l = rw (none-fault s q mode a room long, le-ltb more (2 * (demandOf s q .n * supplyOf s q .n)) l) refl
 
 -- ---- carried out
 
-module _ (s : List ℕ) (q : Question) (mode : ℕ) (a : PairAccepted s q) (known : mode ≤ 1) {demand supply : List ℕ} (x : PairLoaded s q demand supply) (m : Mode)
+module _ (s : List ℕ) (q : Question) (mode : ℕ) (a : modeChecks s q mode ≡ Passed) {demand supply : List ℕ} (x : PairLoaded s q demand supply) (m : Mode)
     (same : m ≡ modeOf mode) {p : Pair} (start : p ≡ pairOf q) where
   -- the run starts from the pair, and there is room
   pub run-starts : {first second : List ℕ} → demandOf s q .n * supplyOf s q .n ≤ length first → 2 * (demandOf s q .n * supplyOf s q .n) ≤ length second
       → RunStarts demand supply p first second
   run-starts long room = record {
     machines = x .machines;
-    demand-state = rw (start, ap (λ (M : Machine). M .n) (x .demand-is)) (asked-demand s q a .state);
-    supply-state = rw (start, ap (λ (M : Machine). M .n) (x .supply-is)) (asked-supply s q a .state);
+    demand-state = rw (start, ap (λ (M : Machine). M .n) (x .demand-is)) (asked-demand s q (mode-asked s q mode a) .state);
+    supply-state = rw (start, ap (λ (M : Machine). M .n) (x .supply-is)) (asked-supply s q (mode-asked s q mode a) .state);
     marks-room = rw (pairs-are x refl) long;
     steps-room = rw (pairs-are x refl) room;
   }
@@ -76,9 +77,9 @@ module _ (s : List ℕ) (q : Question) (mode : ℕ) (a : PairAccepted s q) (know
       → count ≡ markFrom m demand supply p
       → stepped ≡ overwrite (stepsFrom m demand supply p) second
       → (carriedOut (count ∷ []) ≡ runAnswer s q mode (length first) (length second)) × ((marked ≡ runMarks s q mode first (length second)) × (stepped ≡ runSteps s q mode (length first) second))
-  unfolding runAnswer runMarks runSteps
+  unfolding runAnswer runMarks runSteps answer sliceAfter
   run-carried-out first second long room u v w =
-      let none = no-fault s q mode a known (length first) long (length second) room in (
+      let none = no-fault s q mode a (length first) long (length second) room in (
         rw none (ap (λ (n : ℕ). carriedOut (n ∷ [])) (v ∙ rw (same, start, x .demand-is, x .supply-is) refl)),
         (rw none (u ∙ rw (same, x .demand-is, x .supply-is) refl), rw none (w ∙ rw (same, start, x .demand-is, x .supply-is) refl)),
       )
@@ -103,7 +104,7 @@ module _ (file : List ℕ) (q : Question) (mode : ℕ) (first second : List ℕ)
   unfolding runAnswer
   outcome = passed (runChecks file q mode (length first) (length second)) _ _ _ told
 
-  asked : PairAccepted file q
+  asked : pairChecks file q ≡ Passed
   unfolding runChecks
   asked = decide-asked file q mode (length first) (then-left _ _ (outcome .0))
 
@@ -111,11 +112,11 @@ module _ (file : List ℕ) (q : Question) (mode : ℕ) (first second : List ℕ)
   start-mark = ap (λ (l : List ℕ). getD l 0 0) (outcome .1)
 
   marks-written : marked ≡ overwrite (marks (modeOf mode) D S) first
-  unfolding runMarks
+  unfolding runMarks sliceAfter
   marks-written = left ∙ ap (λ (c : Checked). sliceAfter c (overwrite (marks (modeOf mode) D S) first) first) (outcome .0)
 
   steps-written : stepped ≡ overwrite (steps (modeOf mode) D S t w) second
-  unfolding runSteps
+  unfolding runSteps sliceAfter
   steps-written = gone ∙ ap (λ (c : Checked). sliceAfter c (overwrite (steps (modeOf mode) D S t w) second) second) (outcome .0)
 
   steps-first : take (2 * count) stepped ≡ steps (modeOf mode) D S t w

@@ -1,9 +1,6 @@
--- How the enums of the calls are read as answers in document 01's terms, and what a call turned back leaves.
-use mathlib.Core.List.{List, [], _∷_}
-use Prim.Native.Nat.{ℕ}
+-- How the enums of the calls are read as answers in document 01's terms.
+use mathlib.Core.List.{[], _∷_}
 use Rattle.rules.specs.Below.{one}
-use Rattle.tables.specs.declared.Checked.{Checked}
-use Rattle.tables.specs.declared.Checked.the-variants.{Passed, Fault}
 use Rattle.tables.specs.Answers.{Answer, carriedOut, turnedBack}
 use Rattle.checker.specs.declared.Counted.{Counted}
 use Rattle.checker.specs.declared.Counted.the-variants as counts
@@ -26,8 +23,3 @@ decided (decisions.Refused r) = turnedBack r
 abbrev pub joined : Joined → Answer
 joined (joins.Table t) = carriedOut (t .states ∷ t .rows ∷ [])
 joined (joins.Refused r) = turnedBack r
-
--- what a lent slice holds at the end: "All lent buffers then hold what they held", where a call is turned back
-abbrev pub sliceAfter : Checked → List ℕ → List ℕ → List ℕ
-sliceAfter Passed written entry = written
-sliceAfter (Fault r) written entry = entry

@@ -11,27 +11,21 @@ use Rattle.rules.specs.Slices.{overwrite}
 use Rattle.rules.specs.Rounds.{mark, marks, keptCount, rounds}
 use Rattle.tables.specs.declared.Checked.{Checked}
 use Rattle.tables.specs.Checks.{fault, _then_}
-use Rattle.tables.specs.Answers.{Answer, answer}
-use Rattle.tables.specs.File.{tablesOf}
-use Rattle.tables.specs.Open.{fileFault}
+use Rattle.tables.specs.Answers.{Answer, answer, sliceAfter}
 use Rattle.checker.specs.declared.Question.{Question}
-use Rattle.checker.specs.Calls.{sliceAfter}
-use Rattle.checker.specs.Pairs.{pairFault, demandOf, supplyOf}
+use Rattle.checker.specs.Pairs.{pairChecks, demandOf, supplyOf}
 
 -- "a mode, 0 full or 1 partial"; another number is turned back, and what it gives here means nothing
 unfoldable pub modeOf : ℕ → Mode
 modeOf m = cond (eqb m 0) Full Partial
 
--- "After 11, 12, 13 as above: 15 another mode", in a file of k tables
-unfoldable pub decideFault : List ℕ → ℕ → Question → ℕ → Checked
-decideFault s k q mode = pairFault s k q then fault (ltb 1 mode) 15 0
+-- "After 11, 12, 13 as above: 15 another mode"
+unfoldable pub modeChecks : List ℕ → Question → ℕ → Checked
+modeChecks s q mode = pairChecks s q then fault (ltb 1 mode) 15 0
 
--- and after Open's numbers; then "14 the lent 16-bit slice is shorter than the demand n × the supply n."; room is its length
+-- then "14 the lent 16-bit slice is shorter than the demand n × the supply n."; room is its length
 unfoldable pub decideChecks : List ℕ → Question → ℕ → ℕ → Checked
-decideChecks s q mode room =
-    fileFault s
-    then decideFault s (tablesOf s) q mode
-    then fault (ltb room (demandOf s q .n * supplyOf s q .n)) 14 0
+decideChecks s q mode room = modeChecks s q mode then fault (ltb room (demandOf s q .n * supplyOf s q .n)) 14 0
 
 -- "Returned: yes if the start pair, the two states given, is marked 0, else no; the count kept, which is the number of pairs marked 0; and
 -- rounds, the highest mark written, 0 where all pairs are kept."

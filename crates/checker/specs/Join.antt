@@ -11,39 +11,25 @@ use Rattle.rules.specs.Machines.{Table, Machine, machine}
 use Rattle.rules.specs.Actions.{Action, tasks, _∥_}
 use Rattle.rules.specs.Join.{joinState, join, IsJoinRow}
 use Rattle.tables.specs.declared.Checked.{Checked}
-use Rattle.tables.specs.declared.Checked.the-variants.{Passed}
 use Rattle.tables.specs.Checks.{fault, _then_}
-use Rattle.tables.specs.Answers.{Answer, answer, carriedOut}
-use Rattle.tables.specs.File.{tablesOf, bodyBytes}
-use Rattle.tables.specs.Open.{fileFault}
+use Rattle.tables.specs.Answers.{Answer, answer, carriedOut, sliceAfter}
+use Rattle.tables.specs.File.{bodyBytes}
 use Rattle.tables.specs.Accepted.{TableBody}
 use Rattle.tables.specs.Tables.{rowsOf, tableOf, machineOf}
-use Rattle.checker.specs.Calls.{sliceAfter}
-use Rattle.checker.specs.Named.{namedFault, asDemand}
+use Rattle.joins.specs.Joins.{rowsChecks}
+use Rattle.checker.specs.Named.{namedChecks, asDemand}
 
--- "Two demand tables, perhaps the same one. After Open's: 11, 12, first then second; 16 if the product of the two n is above 64", in a file of
--- k tables
-unfoldable pub joinFault : List ℕ → ℕ → ℕ → ℕ → Checked
-joinFault s k i j =
-    namedFault s k (asDemand i) (asDemand j)
-    then fault (ltb 64 (tableOf s i .n * tableOf s j .n)) 16 0
-
--- none of these numbers applies
-pub record JoinAccepted (s : List ℕ) (i j : ℕ) : Type 0 where
-  pub file : fileFault s ≡ Passed
-  pub tables : joinFault s (tablesOf s) i j ≡ Passed
+-- "Two demand tables, perhaps the same one. After Open's: 11, 12, first then second; 16 if the product of the two n is above 64"
+unfoldable pub sizeChecks : List ℕ → ℕ → ℕ → Checked
+sizeChecks s i j = namedChecks s (asDemand i) (asDemand j) then fault (ltb 64 (tableOf s i .n * tableOf s j .n)) 16 0
 
 -- the joined table
 abbrev pub joinOf : List ℕ → ℕ → ℕ → Table
 joinOf s i j = join (machineOf s i) (machineOf s j)
 
--- and after them "17 if above 512 rows result; 14 if the lent bytes are under 4 × those rows"; room is how many are lent
+-- then "17 if above 512 rows result; 14 if the lent bytes are under 4 × those rows"; room is how many are lent
 unfoldable pub joinChecks : List ℕ → ℕ → ℕ → ℕ → Checked
-joinChecks s i j room =
-    fileFault s
-    then joinFault s (tablesOf s) i j
-    then fault (ltb 512 (length (joinOf s i j .rows))) 17 0
-    then fault (ltb room (4 * length (joinOf s i j .rows))) 14 0
+joinChecks s i j room = sizeChecks s i j then rowsChecks (joinOf s i j .rows) room
 
 -- "n and m are returned"
 unfoldable pub joinAnswer : List ℕ → ℕ → ℕ → ℕ → Answer

@@ -4,13 +4,11 @@ use mathlib.Core.List.{List, [], _∷_, flatMap}
 use lib.Dec.{ltb}
 use lib.ListN.{length}
 use Rattle.rules.specs.Slices.{overwrite}
-use Rattle.rules.specs.Actions.{Action}
 use Rattle.rules.specs.Moves.{numbers}
 use Rattle.tables.specs.declared.Checked.{Checked}
 use Rattle.tables.specs.Checks.{fault, _then_}
-use Rattle.tables.specs.Answers.{Answer, answer}
+use Rattle.tables.specs.Answers.{Answer, answer, sliceAfter}
 use Rattle.checker.specs.declared.Question.{Question}
-use Rattle.checker.specs.Calls.{sliceAfter}
 use Rattle.checker.specs.Pairs.{pairChecks, survivorsAt}
 
 -- "14 the lent slice of 16-bit numbers is shorter than 5 × the surviving moves"; room is its length
@@ -25,7 +23,3 @@ movesAnswer s q room = answer (movesChecks s q room) (length (survivorsAt s q) �
 -- "the rest of the slice unchanged"
 unfoldable pub movesSlice : List ℕ → Question → List ℕ → List ℕ
 movesSlice s q entry = sliceAfter (movesChecks s q (length entry)) (overwrite (flatMap numbers (survivorsAt s q)) entry) entry
-
--- the five numbers of a transition of PADS by the action a to the pair (u, v): what is granted and left, consumed, requested and unmet
-abbrev pub stepNumbers : Action → ℕ → ℕ → List ℕ
-stepNumbers a u v = a .grants ∷ a .consumptions ∷ a .requests ∷ u ∷ v ∷ []

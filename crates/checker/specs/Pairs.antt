@@ -7,30 +7,18 @@ use Rattle.rules.specs.declared.Pair.{Pair}
 use Rattle.rules.specs.Machines.{Machine}
 use Rattle.rules.specs.Moves.{Candidate, survivors}
 use Rattle.tables.specs.declared.Checked.{Checked}
-use Rattle.tables.specs.declared.Checked.the-variants.{Passed}
 use Rattle.tables.specs.Checks.{fault, _then_}
-use Rattle.tables.specs.File.{tablesOf}
-use Rattle.tables.specs.Open.{fileFault}
 use Rattle.tables.specs.Tables.{tableOf, machineOf}
 use Rattle.machines.specs.Memory.{machineIn, TwoMachines}
 use Rattle.checker.specs.declared.Question.{Question}
-use Rattle.checker.specs.Named.{namedFault, asDemand, asSupply}
+use Rattle.checker.specs.Named.{namedChecks, asDemand, asSupply}
 
--- "11 for demand, then supply; 12 wrong kind, demand then supply; 13 state not below n, demand then supply", in a file of k tables
-unfoldable pub pairFault : List ℕ → ℕ → Question → Checked
-pairFault s k q =
-    namedFault s k (asDemand (q .demand .table)) (asSupply (q .supply .table))
+-- after Open's numbers "11 for demand, then supply; 12 wrong kind, demand then supply; 13 state not below n, demand then supply"
+unfoldable pub pairChecks : List ℕ → Question → Checked
+pairChecks s q =
+    namedChecks s (asDemand (q .demand .table)) (asSupply (q .supply .table))
     then fault (leb (tableOf s (q .demand .table) .n) (q .demand .state)) 13 0
     then fault (leb (tableOf s (q .supply .table) .n) (q .supply .state)) 13 0
-
--- "After Open's"
-unfoldable pub pairChecks : List ℕ → Question → Checked
-pairChecks s q = fileFault s then pairFault s (tablesOf s) q
-
--- none of these numbers applies
-pub record PairAccepted (s : List ℕ) (q : Question) : Type 0 where
-  pub file : fileFault s ≡ Passed
-  pub pair : pairFault s (tablesOf s) q ≡ Passed
 
 -- the two machines, and the surviving moves of the pair
 abbrev pub demandOf : List ℕ → Question → Machine

@@ -1,8 +1,9 @@
-// The join of two demand tables: what turns it back after opening, and its rows where nothing does.
+// The join of two demand tables: what turns it back, and its rows where nothing does.
 ghost use mathlib.Core.Path.{_≡_};
 ghost use lib.ListN.{length};
+ghost use Rattle.tables.specs.declared.Checked.the-variants.{Passed};
 ghost use Rattle.checker.specs.Calls.{joined};
-ghost use Rattle.checker.specs.Join.{joinFault, JoinAccepted, joinAnswer, joinSlice};
+ghost use Rattle.checker.specs.Join.{sizeChecks, joinAnswer, joinSlice};
 use crate::Joined;
 use crate::TableSize;
 use crate::named::Named;
@@ -16,14 +17,13 @@ use tables::Checked;
 use tables::Refusal;
 use tables::states_of;
 
-// What turns back a join before its rows are built, in a file of k tables.
-pub(crate) fn check_join(file: &[u8], k: usize, first: usize, second: usize) -> Checked
-    ensures { λ r. ⌜ r ≡ joinFault (now (file .entry)) k first second ⌝ }
+// What turns back a join before its rows are built.
+pub(crate) fn check_join(file: &[u8], first: usize, second: usize) -> Checked
+    ensures { λ r. ⌜ r ≡ sizeChecks (now (file .entry)) first second ⌝ }
 {
-    let a = Named::demand(first);
-    let b = Named::demand(second);
-    if let Checked::Fault(refusal) = check_named(file, k, a, b) {
-        return Checked::Fault(refusal);
+    let found = check_named(file, Named::demand(first), Named::demand(second));
+    if let Checked::Fault(_) = found {
+        return found;
     }
     let states = states_of(file, first) as usize * states_of(file, second) as usize;
     if Limits::STATES < states {
@@ -34,7 +34,7 @@ pub(crate) fn check_join(file: &[u8], k: usize, first: usize, second: usize) -> 
 
 // Writes the rows of the join where there is room.
 pub(crate) fn write_join(file: &[u8], first: usize, second: usize, out: &mut [u8]) -> Joined
-    requires { ⌜ JoinAccepted (now file) first second ⌝ }
+    requires { ⌜ sizeChecks (now file) first second ≡ Passed ⌝ }
     ensures answer { λ r. ⌜ joined r ≡ joinAnswer (now (file .entry)) first second (length (now (out .entry))) ⌝ }
     ensures slice { λ r. ⌜ now (out .exit) ≡ joinSlice (now (file .entry)) first second (now (out .entry)) ⌝ }
 {

@@ -8,13 +8,10 @@ ghost use Rattle.checker.specs.Calls.{counted, decided, joined};
 ghost use Rattle.checker.specs.Moves.{movesAnswer, movesSlice};
 ghost use Rattle.checker.specs.Decide.{decideAnswer, decideSlice};
 ghost use Rattle.checker.specs.Run.{runAnswer, runMarks, runSteps};
-ghost use Rattle.checker.specs.Demands.{DecideDemands, RunDemands};
+ghost use Rattle.checker.specs.Demands.{MovesDemands, DecideDemands, RunDemands};
 ghost use Rattle.checker.specs.Join.{joinAnswer, joinSlice, JoinDemands};
 use tables::Checked;
-use tables::Opened;
 use tables::Refusal;
-use tables::open;
-use tables::refusal_of;
 
 mod joining;
 mod named;
@@ -67,12 +64,9 @@ pub enum Joined {
 pub fn moves(file: &[u8], question: Question, out: &mut [u16]) -> Counted
     ensures answer { λ r. ⌜ counted r ≡ movesAnswer (now (file .entry)) question (length (now (out .entry))) ⌝ }
     ensures slice { λ r. ⌜ now (out .exit) ≡ movesSlice (now (file .entry)) question (now (out .entry)) ⌝ }
+    ensures demands { λ r. ⌜ MovesDemands (now (file .entry)) question (counted r) (now (out .exit)) ⌝ }
 {
-    let found = open(file);
-    let Opened::Tables(k) = found else {
-        return Counted::Refused(refusal_of(found));
-    };
-    if let Checked::Fault(refusal) = pairs::check_pair(file, k, question) {
+    if let Checked::Fault(refusal) = pairs::check_pair(file, question) {
         return Counted::Refused(refusal);
     }
     pairs::write_moves(file, question, out)
@@ -84,11 +78,7 @@ pub fn decide(file: &[u8], question: Question, mode: usize, marks: &mut [u16]) -
     ensures slice { λ r. ⌜ now (marks .exit) ≡ decideSlice (now (file .entry)) question mode (now (marks .entry)) ⌝ }
     ensures demands { λ r. ⌜ DecideDemands (now (file .entry)) question mode (decided r) (now (marks .exit)) ⌝ }
 {
-    let found = open(file);
-    let Opened::Tables(k) = found else {
-        return Decided::Refused(refusal_of(found));
-    };
-    if let Checked::Fault(refusal) = pairs::check_decision(file, k, question, mode) {
+    if let Checked::Fault(refusal) = pairs::check_decision(file, question, mode) {
         return Decided::Refused(refusal);
     }
     pairs::write_marks(file, question, mode, marks)
@@ -107,11 +97,7 @@ pub fn run(
     ensures steps { λ r. ⌜ now (steps .exit) ≡ runSteps (now (file .entry)) question mode (length (now (marks .entry))) (now (steps .entry)) ⌝ }
     ensures demands { λ r. ⌜ RunDemands (now (file .entry)) question mode (counted r) (now (marks .exit)) (now (steps .exit)) ⌝ }
 {
-    let found = open(file);
-    let Opened::Tables(k) = found else {
-        return Counted::Refused(refusal_of(found));
-    };
-    if let Checked::Fault(refusal) = pairs::check_decision(file, k, question, mode) {
+    if let Checked::Fault(refusal) = pairs::check_decision(file, question, mode) {
         return Counted::Refused(refusal);
     }
     pairs::write_run(file, question, mode, marks, steps)
@@ -123,11 +109,7 @@ pub fn join(file: &[u8], first: usize, second: usize, out: &mut [u8]) -> Joined
     ensures slice { λ r. ⌜ now (out .exit) ≡ joinSlice (now (file .entry)) first second (now (out .entry)) ⌝ }
     ensures demands { λ r. ⌜ JoinDemands (now (file .entry)) first second (joined r) (now (out .exit)) ⌝ }
 {
-    let found = open(file);
-    let Opened::Tables(k) = found else {
-        return Joined::Refused(refusal_of(found));
-    };
-    if let Checked::Fault(refusal) = joining::check_join(file, k, first, second) {
+    if let Checked::Fault(refusal) = joining::check_join(file, first, second) {
         return Joined::Refused(refusal);
     }
     joining::write_join(file, first, second, out)

@@ -1,10 +1,13 @@
-// Two tables of a file that a call names, each by its number and the kind that it has to be.
+// Two tables of a file that a call names, each by its number and the kind that it has to be. Every call opens the file here.
 ghost use mathlib.Core.Path.{_≡_};
-ghost use Rattle.checker.specs.Named.{namedFault, asDemand, asSupply};
+ghost use Rattle.checker.specs.Named.{namedChecks, asDemand, asSupply};
 use tables::Checked;
 use tables::Entry;
+use tables::Opened;
 use tables::Refusal;
 use tables::entry_at;
+use tables::open;
+use tables::refusal_of;
 
 // A table that a call names: its number, and the kind that it has to be.
 pub(crate) struct Named {
@@ -32,10 +35,14 @@ impl Named {
     }
 }
 
-// What turns back a call that names two tables, in a file of k tables.
-pub(crate) fn check_named(file: &[u8], k: usize, first: Named, second: Named) -> Checked
-    ensures { λ r. ⌜ r ≡ namedFault (now (file .entry)) k first second ⌝ }
+// What turns back a call that names two tables of a file.
+pub(crate) fn check_named(file: &[u8], first: Named, second: Named) -> Checked
+    ensures { λ r. ⌜ r ≡ namedChecks (now (file .entry)) first second ⌝ }
 {
+    let found = open(file);
+    let Opened::Tables(k) = found else {
+        return Checked::Fault(refusal_of(found));
+    };
     if k <= first.table {
         return Checked::Fault(Refusal::new(11, 0));
     }

@@ -1,11 +1,12 @@
-// Questions about a pair of states: what turns them back after opening, and their answers where nothing does.
+// Questions about a pair of states: what turns them back, and their answers where nothing does.
 ghost use mathlib.Core.Path.{_≡_};
 ghost use lib.ListN.{length};
 ghost use Prim.Native.Nat.{_≤_};
+ghost use Rattle.tables.specs.declared.Checked.the-variants.{Passed};
 ghost use Rattle.checker.specs.Calls.{counted, decided};
-ghost use Rattle.checker.specs.Pairs.{pairFault, PairAccepted, pairOf, PairLoaded};
+ghost use Rattle.checker.specs.Pairs.{pairChecks, pairOf, PairLoaded};
 ghost use Rattle.checker.specs.Moves.{movesAnswer, movesSlice};
-ghost use Rattle.checker.specs.Decide.{modeOf, decideFault, decideAnswer, decideSlice};
+ghost use Rattle.checker.specs.Decide.{modeOf, modeChecks, decideAnswer, decideSlice};
 ghost use Rattle.checker.specs.Run.{runAnswer, runMarks, runSteps};
 use crate::Counted;
 use crate::Decided;
@@ -22,14 +23,15 @@ use tables::Checked;
 use tables::Refusal;
 use tables::states_of;
 
-// What turns back a question about a pair in a file of k tables.
-pub(crate) fn check_pair(file: &[u8], k: usize, question: Question) -> Checked
-    ensures { λ r. ⌜ r ≡ pairFault (now (file .entry)) k question ⌝ }
+// What turns back a question about a pair.
+pub(crate) fn check_pair(file: &[u8], question: Question) -> Checked
+    ensures { λ r. ⌜ r ≡ pairChecks (now (file .entry)) question ⌝ }
 {
     let demand = Named::demand(question.demand.table);
     let supply = Named::supply(question.supply.table);
-    if let Checked::Fault(refusal) = check_named(file, k, demand, supply) {
-        return Checked::Fault(refusal);
+    let found = check_named(file, demand, supply);
+    if let Checked::Fault(_) = found {
+        return found;
     }
     if (states_of(file, question.demand.table) as usize) <= question.demand.state {
         return Checked::Fault(Refusal::new(13, 0));
@@ -40,12 +42,13 @@ pub(crate) fn check_pair(file: &[u8], k: usize, question: Question) -> Checked
     Checked::Passed
 }
 
-// What turns back a question about a pair in a mode, in a file of k tables.
-pub(crate) fn check_decision(file: &[u8], k: usize, question: Question, mode: usize) -> Checked
-    ensures { λ r. ⌜ r ≡ decideFault (now (file .entry)) k question mode ⌝ }
+// What turns back a question about a pair in a mode.
+pub(crate) fn check_decision(file: &[u8], question: Question, mode: usize) -> Checked
+    ensures { λ r. ⌜ r ≡ modeChecks (now (file .entry)) question mode ⌝ }
 {
-    if let Checked::Fault(refusal) = check_pair(file, k, question) {
-        return Checked::Fault(refusal);
+    let found = check_pair(file, question);
+    if let Checked::Fault(_) = found {
+        return found;
     }
     if 1 < mode {
         return Checked::Fault(Refusal::new(15, 0));
@@ -65,7 +68,7 @@ fn mode_of(number: usize) -> Mode
 
 // Loads the two tables that a question names, and returns the pair that it asks about.
 fn load_pair(file: &[u8], question: Question, demand: &mut [u32], supply: &mut [u32]) -> Pair
-    requires { ⌜ PairAccepted (now file) question × (579 ≤ length (now demand)) × (579 ≤ length (now supply)) ⌝ }
+    requires { ⌜ (pairChecks (now file) question ≡ Passed) × (579 ≤ length (now demand)) × (579 ≤ length (now supply)) ⌝ }
     ensures pair { λ r. ⌜ r ≡ pairOf question ⌝ }
     ensures loaded { λ r. ⌜ PairLoaded (now (file .entry)) question (now (demand .exit)) (now (supply .exit)) ⌝ }
     ensures demand_length { λ r. ⌜ length (now (demand .exit)) ≡ length (now (demand .entry)) ⌝ }
@@ -81,7 +84,7 @@ fn load_pair(file: &[u8], question: Question, demand: &mut [u32], supply: &mut [
 
 // Counts the surviving moves of the pair, and writes them where there is room.
 pub(crate) fn write_moves(file: &[u8], question: Question, out: &mut [u16]) -> Counted
-    requires { ⌜ PairAccepted (now file) question ⌝ }
+    requires { ⌜ pairChecks (now file) question ≡ Passed ⌝ }
     ensures answer { λ r. ⌜ counted r ≡ movesAnswer (now (file .entry)) question (length (now (out .entry))) ⌝ }
     ensures slice { λ r. ⌜ now (out .exit) ≡ movesSlice (now (file .entry)) question (now (out .entry)) ⌝ }
 {
@@ -103,7 +106,7 @@ pub(crate) fn write_marks(
     mode: usize,
     marks: &mut [u16],
 ) -> Decided
-    requires { ⌜ PairAccepted (now file) question × (mode ≤ 1) ⌝ }
+    requires { ⌜ modeChecks (now file) question mode ≡ Passed ⌝ }
     ensures answer { λ r. ⌜ decided r ≡ decideAnswer (now (file .entry)) question mode (length (now (marks .entry))) ⌝ }
     ensures slice { λ r. ⌜ now (marks .exit) ≡ decideSlice (now (file .entry)) question mode (now (marks .entry)) ⌝ }
 {
@@ -129,7 +132,7 @@ pub(crate) fn write_run(
     marks: &mut [u16],
     steps: &mut [u16],
 ) -> Counted
-    requires { ⌜ PairAccepted (now file) question × (mode ≤ 1) ⌝ }
+    requires { ⌜ modeChecks (now file) question mode ≡ Passed ⌝ }
     ensures answer { λ r. ⌜ counted r ≡ runAnswer (now (file .entry)) question mode (length (now (marks .entry))) (length (now (steps .entry))) ⌝ }
     ensures marks { λ r. ⌜ now (marks .exit) ≡ runMarks (now (file .entry)) question mode (now (marks .entry)) (length (now (steps .entry))) ⌝ }
     ensures steps { λ r. ⌜ now (steps .exit) ≡ runSteps (now (file .entry)) question mode (length (now (marks .entry))) (now (steps .entry)) ⌝ }

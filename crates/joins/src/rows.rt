@@ -1,14 +1,27 @@
-// Rising rows in a body: the position of a row among those of its state, and putting it there.
+// Rows in a body: writing one, the position of a row among those of its state, and putting it there.
 ghost use mathlib.Core.Path.{_≡_};
 ghost use mathlib.Core.List.{[], _∷_};
 ghost use Prim.Native.Nat.{_+_, _*_, _≤_};
 ghost use lib.ListN.{length};
+ghost use Rattle.rules.specs.Slices.{writeAt};
+ghost use Rattle.tables.specs.File.{rowBytes};
 ghost use Rattle.tables.specs.Tables.{rowsOf};
 ghost use Rattle.joins.specs.Building.{IsPosition, standsAt, putAt, Grows};
 use rules::Limits;
 use rules::Row;
 use tables::row_at;
-use tables::write_row;
+
+// Writes row i of a body.
+pub(crate) fn write_row(body: &mut [u8], i: usize, row: Row)
+    requires { ⌜ 4 * i + 4 ≤ length (now body) ⌝ }
+    ensures { λ r. ⌜ now (body .exit) ≡ writeAt (4 * i) (rowBytes row) (now (body .entry)) ⌝ }
+{
+    let at = 4 * i;
+    body[at] = row.from;
+    body[at + 1] = row.target;
+    body[at + 2] = (row.set % 256) as u8;
+    body[at + 3] = (row.set / 256) as u8;
+}
 
 // The first row from `start` on that does not come before `row`; `count` where there is none.
 fn position(rows: &[u8], start: usize, count: usize, row: Row) -> usize

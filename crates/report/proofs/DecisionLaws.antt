@@ -13,14 +13,14 @@ use Rattle.rules.specs.Rounds.{mark, keptCount, rounds}
 use Rattle.rules.proofs.BelowLaws.{one-same}
 use Rattle.tables.specs.declared.Refusal.{Refusal}
 use Rattle.tables.specs.declared.Checked.the-variants.{Passed}
-use Rattle.tables.specs.Answers.{Answer, answer, carriedOut, turnedBack}
+use Rattle.tables.specs.Answers.{Answer, answer, carriedOut, turnedBack, sliceAfter}
 use Rattle.checker.specs.declared.Question.{Question}
 use Rattle.checker.specs.declared.Verdict.{Verdict}
-use Rattle.checker.specs.Pairs.{PairAccepted, demandOf, supplyOf}
+use Rattle.checker.specs.Pairs.{pairChecks, demandOf, supplyOf}
 use Rattle.checker.specs.Decide.{modeOf, decideAnswer}
 use Rattle.checker.specs.Run.{runChecks, runAnswer, runSteps}
 use Rattle.checker.proofs.PairLaws.{asked-demand, asked-supply}
-use Rattle.checker.proofs.DecideLaws.{none-fault}
+use Rattle.checker.proofs.DecideLaws.{known-mode, none-fault}
 use Rattle.checker.proofs.RunLaws.{no-fault}
 use Rattle.report.specs.declared.pages.Found.{Found}
 use Rattle.report.specs.Pages.{stepsAt}
@@ -33,7 +33,7 @@ values-refused r x xs e = let none : 0 ≡ suc (length xs) = ap (λ (a : Answer)
 pub found-is : {v w : Verdict} {m n : ℕ} → v ≡ w → m ≡ n → _≡_ {A = Found} (record { verdict = v; steps = m }) (record { verdict = w; steps = n })
 found-is e f = λ i. record { verdict = e i; steps = f i }
 
-module _ (s : List ℕ) (q : Question) (a : PairAccepted s q) where
+module _ (s : List ℕ) (q : Question) (a : pairChecks s q ≡ Passed) where
   pub few-pairs : demandOf s q .n * supplyOf s q .n ≤ 4096
   few-pairs = mul-le-mul (asked-demand s q a .table .few-states) (asked-supply s q a .table .few-states)
 
@@ -51,8 +51,8 @@ module _ (s : List ℕ) (q : Question) (a : PairAccepted s q) where
     long = let few = few-pairs in omega arith
 
     decided-is : decideAnswer s q mode room ≡ carriedOut (one (eqb start 0) ∷ keptCount (modeOf mode) D S ∷ rounds (modeOf mode) D S ∷ [])
-    unfolding decideAnswer
-    decided-is = rw (none-fault s q mode a known room long) refl
+    unfolding decideAnswer answer
+    decided-is = rw (none-fault s q mode (known-mode s q mode a known) room long) refl
 
     pub decide-refused : (r : Refusal) → turnedBack r ≡ decideAnswer s q mode room → ⊥
     decide-refused r e = values-refused r _ _ (e ∙ decided-is)
@@ -68,10 +68,10 @@ module _ (s : List ℕ) (q : Question) (a : PairAccepted s q) where
 
     module _ (more : ℕ) (wide : 8192 ≤ more) where
       passes : runChecks s q mode room more ≡ Passed
-      passes = no-fault s q mode a known room long more (let few = few-pairs in omega arith)
+      passes = no-fault s q mode (known-mode s q mode a known) room long more (let few = few-pairs in omega arith)
 
       run-is : runAnswer s q mode room more ≡ carriedOut (start ∷ [])
-      unfolding runAnswer
+      unfolding runAnswer answer
       run-is = rw passes refl
 
       pub run-refused : (r : Refusal) → turnedBack r ≡ runAnswer s q mode room more → ⊥
@@ -82,5 +82,5 @@ module _ (s : List ℕ) (q : Question) (a : PairAccepted s q) where
 
     pub run-steps : (entry : List ℕ) → 8192 ≤ length entry
         → runSteps s q mode room entry ≡ overwrite (stepsAt (modeOf mode) s q) entry
-    unfolding runSteps
+    unfolding runSteps sliceAfter
     run-steps entry wide = rw (passes (length entry) wide) refl

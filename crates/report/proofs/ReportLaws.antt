@@ -24,17 +24,17 @@ use Rattle.tables.specs.declared.Checked.the-variants.{Passed, Fault}
 use Rattle.tables.specs.declared.Opened.{Opened}
 use Rattle.tables.specs.declared.Opened.the-variants.{Tables, Refused}
 use Rattle.tables.specs.Checks.{refuse, fault, _then_}
-use Rattle.tables.specs.Answers.{Answer, answer, turnedBack, carriedOut, opened}
+use Rattle.tables.specs.Answers.{Answer, answer, turnedBack, carriedOut, opened, sliceAfter}
 use Rattle.tables.specs.File.{tablesOf, entryOf}
 use Rattle.tables.specs.Tables.{tableOf}
 use Rattle.tables.specs.Open.{fileFault, openOf}
-use Rattle.tables.proofs.CheckLaws.{fault-passed, passed-fault, then-left, then-right, then-both}
+use Rattle.tables.proofs.CheckLaws.{fault-passed, passed-fault, then-left, then-right, then-both, turned-back}
 use Rattle.tables.proofs.AcceptedLaws.{passed-accepted, tables-passed, refused-fault}
 use Rattle.checker.specs.declared.Side.{Side}
 use Rattle.checker.specs.declared.Question.{Question}
 use Rattle.checker.specs.Decide.{modeOf}
-use Rattle.checker.specs.Named.{namedFault}
-use Rattle.checker.specs.Pairs.{pairFault, PairAccepted, demandOf, supplyOf}
+use Rattle.checker.specs.Named.{namedChecks}
+use Rattle.checker.specs.Pairs.{pairChecks, demandOf, supplyOf}
 use Rattle.text.proofs.TextLaws.{length-decimal}
 use Rattle.report.specs.Lines.{refusedLine, fileLine, startLine, modeWord, verdictWord, verdictLine, stepLine}
 use Rattle.report.specs.Report.{firstOf, firstDemand, firstSupply, startOf, startSide, questionOf, programChecks, modeText, decisionText, textAfter, text, roomFault, reportAnswer, reportBytes}
@@ -100,19 +100,17 @@ module _ (s : List ℕ) (passed : programChecks s ≡ Passed) where
   kind-right : (kind i : ℕ) → entryOf s i .kind ≡ kind → not (eqb (entryOf s i .kind) kind) ≡ false
   kind-right kind i h = rw (eq-eqb _ _ h) refl
 
-  pub question-asked : PairAccepted s (questionOf s)
-  unfolding pairFault namedFault
-  question-asked = record {
-    file = file-fault;
-    pair =
-        then-both _ _
-        (then-both _ _ (passed-fault _ _ _ (lt-leb _ _ demand-there))
-        (then-both _ _ (passed-fault _ _ _ (lt-leb _ _ supply-there))
-        (then-both _ _ (passed-fault _ _ _ (kind-right 1 _ (first-kind s 1 _ demand-there))) (passed-fault _ _ _ (kind-right 2 _ (first-kind s 2 _ supply-there))))))
-        (then-both _ _ (passed-fault _ _ _ (lt-leb _ _ (start-state _ demand-there))) (passed-fault _ _ _ (lt-leb _ _ (start-state _ supply-there))));
-  }
+  pub question-asked : pairChecks s (questionOf s) ≡ Passed
+  unfolding pairChecks namedChecks
+  question-asked =
+      then-both _ _
+      (then-both _ _ file-fault
+      (then-both _ _ (passed-fault _ _ _ (lt-leb _ _ demand-there))
+      (then-both _ _ (passed-fault _ _ _ (lt-leb _ _ supply-there))
+      (then-both _ _ (passed-fault _ _ _ (kind-right 1 _ (first-kind s 1 _ demand-there))) (passed-fault _ _ _ (kind-right 2 _ (first-kind s 2 _ supply-there)))))))
+      (then-both _ _ (passed-fault _ _ _ (lt-leb _ _ (start-state _ demand-there))) (passed-fault _ _ _ (lt-leb _ _ (start-state _ supply-there))))
 
-pub first-asked : (s : List ℕ) → programChecks s ≡ Passed → (q : Question) → questionOf s ≡ q → PairAccepted s q
+pub first-asked : (s : List ℕ) → programChecks s ≡ Passed → (q : Question) → questionOf s ≡ q → pairChecks s q ≡ Passed
 first-asked s passed q same = rw same at (question-asked s passed)
 
 -- ---- how long the text can be
@@ -255,17 +253,17 @@ module _ (s entry : List ℕ) where
   pub room-short : length entry < length (text s)
       → (turnedBack (refuse 14 0) ≡ reportAnswer s (length entry)) × (entry ≡ reportBytes s entry)
   unfolding reportAnswer reportBytes roomFault fault
-  room-short h = (rw (lt-ltb _ _ h) refl, rw (lt-ltb _ _ h) refl)
+  room-short h = turned-back _ _ _ _ _ (rw (lt-ltb _ _ h) refl)
 
   pub text-written : (count : ℕ) (exit : List ℕ) → length (text s) ≤ length entry → count ≡ length (text s) → exit ≡ writeAt 0 (text s) entry
       → (carriedOut (count ∷ []) ≡ reportAnswer s (length entry)) × (exit ≡ reportBytes s entry)
-  unfolding reportAnswer reportBytes roomFault fault
+  unfolding reportAnswer reportBytes roomFault fault answer sliceAfter
   text-written count exit h e w =
       (rw (le-ltb _ _ h) (ap (λ (n : ℕ). carriedOut (n ∷ [])) e), rw (le-ltb _ _ h) (w ∙ writeAt-overwrite (text s) entry h))
 
 -- the count that is returned is within the lent bytes
 pub count-within : (s : List ℕ) (room count : ℕ) → carriedOut (count ∷ []) ≡ reportAnswer s room → count ≤ room
-unfolding reportAnswer roomFault fault
+unfolding reportAnswer roomFault fault answer
 count-within s room count e = go (ltb room (length (text s))) refl e
   where
     go : (b : Bool) → ltb room (length (text s)) ≡ b → carriedOut (count ∷ []) ≡ answer (fault b 14 0) (length (text s) ∷ []) → count ≤ room
@@ -278,7 +276,7 @@ module _ (s : List ℕ) (room : ℕ) (h : 385321 ≤ room) where
   enough = let fits = text-fits s in le-ltb room (length (text s)) (let few : length (text s) ≤ room = omega arith in few)
 
   pub always-written : reportAnswer s room ≡ carriedOut (length (text s) ∷ [])
-  unfolding reportAnswer roomFault fault
+  unfolding reportAnswer roomFault fault answer
   always-written = rw enough refl
 
   pub never-refused : (r : Refusal) → turnedBack r ≡ reportAnswer s room → ⊥
@@ -288,5 +286,5 @@ module _ (s : List ℕ) (room : ℕ) (h : 385321 ≤ room) where
   whole-count count e = ap (λ (x : Answer). getD (x .values) 0 0) (e ∙ always-written)
 
 pub bytes-written : (s entry : List ℕ) → 385321 ≤ length entry → reportBytes s entry ≡ overwrite (text s) entry
-unfolding reportBytes roomFault fault
+unfolding reportBytes roomFault fault sliceAfter
 bytes-written s entry h = rw (enough s (length entry) h) refl

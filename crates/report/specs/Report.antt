@@ -13,13 +13,12 @@ use Rattle.rules.specs.Steps.{slots}
 use Rattle.tables.specs.declared.Checked.{Checked}
 use Rattle.tables.specs.declared.Checked.the-variants.{Passed, Fault}
 use Rattle.tables.specs.Checks.{fault, _then_}
-use Rattle.tables.specs.Answers.{Answer, answer}
+use Rattle.tables.specs.Answers.{Answer, answer, sliceAfter}
 use Rattle.tables.specs.File.{tablesOf, entryOf}
 use Rattle.tables.specs.Open.{fileFault}
 use Rattle.tables.specs.Tables.{tableOf}
 use Rattle.checker.specs.declared.Side.{Side}
 use Rattle.checker.specs.declared.Question.{Question}
-use Rattle.checker.specs.Calls.{sliceAfter}
 use Rattle.checker.specs.Pairs.{demandOf, supplyOf}
 use Rattle.report.specs.Lines.{refusedLine, fileLine, startLine, verdictLine, stepLine}
 

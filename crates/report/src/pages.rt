@@ -3,7 +3,8 @@ ghost use Prim.Native.Nat.{_+_, _*_, _^_, _≤_, _<_};
 ghost use mathlib.Core.Path.{_≡_};
 ghost use lib.ListN.{length};
 ghost use Rattle.rules.specs.Slices.{writeAt, overwrite};
-ghost use Rattle.checker.specs.Pairs.{PairAccepted};
+ghost use Rattle.tables.specs.declared.Checked.the-variants.{Passed};
+ghost use Rattle.checker.specs.Pairs.{pairChecks};
 ghost use Rattle.checker.specs.Decide.{modeOf};
 ghost use Rattle.report.specs.declared.pages.Page.the-variants.{Answered};
 ghost use Rattle.report.specs.Report.{text, firstOf, startSide};
@@ -92,7 +93,7 @@ fn start_side(file: &[u8], table: usize) -> Side
 
 // What a mode finds, and in `steps` the run that shows a no. Nothing turns back a call here, so the answer for that case is never given.
 fn find(file: &[u8], question: Question, mode: usize, steps: &mut [u16]) -> Found
-    requires { ⌜ PairAccepted (now file) question × (mode ≤ 1) × (8192 ≤ length (now steps)) ⌝ }
+    requires { ⌜ (pairChecks (now file) question ≡ Passed) × (mode ≤ 1) × (8192 ≤ length (now steps)) ⌝ }
     ensures found { λ r. ⌜ r ≡ foundAt (modeOf mode) (now (file .entry)) question ⌝ }
     ensures steps { λ r. ⌜ now (steps .exit) ≡ overwrite (stepsAt (modeOf mode) (now (file .entry)) question) (now (steps .entry)) ⌝ }
 {

@@ -1,4 +1,5 @@
--- The worked examples of document 01 hold, by computation from the rules.
+-- The worked examples hold, by computation from the definitions alone: a wrong reading that an example tells apart is refused here, and another
+-- wording of the right one is not.
 use Prim.Native.Nat.{ℕ, _<_}
 use mathlib.Core.Path.{_≡_, refl, ap₂}
 use mathlib.Core.Bool.{Bool, true, false, not, _&&_}
@@ -6,15 +7,16 @@ use mathlib.Core.List.{List, [], _∷_, flatMap, List·Memᴰ}
 use lib.Dec.{T, T-not, eqb, eqb→eq, ltb, ltb→lt}
 use lib.ListN.{length}
 use Rattle.rules.specs.declared.Row.{Row}
-use Rattle.rules.specs.Lists.{all, isEmpty}
+use Rattle.rules.specs.Lists.{all, isEmpty, first}
 use Rattle.rules.specs.Sets.{intersection, union, disjoint, difference, inside, larger, maximal}
 use Rattle.rules.specs.Rows.{rises}
 use Rattle.rules.specs.Machines.{Table, rowMoves, stateMoves, machine}
 use Rattle.rules.specs.Moves.{leftOf, consumedOf, unmetOf, candidates, prunes, survivorsOf, survivors, numbers}
 use Rattle.rules.specs.Rounds.{hasResponse, slotHolds, pairHolds, isPair, keeps, markBy, mark, marks}
+use Rattle.rules.specs.Steps.{follows, struckBy, lacksResponse, stepTo, lastSlot, slots, steps}
 use Rattle.rules.specs.Join.{insertRow, insertRows, joinRows, join}
-use Rattle.rules.specs.Examples.{demandE, supplyE, finOnly, demandFifth, demandSixth, thenFin, once, atMostOnce, repeated, twoSlots, examples}
-use Rattle.rules.specs.Examples.{Example, Means, movesAre, marksAre, saysYes, saysNo, joinIs, joinCount, isStuck}
+use Rattle.rules.specs.Examples.{demandE, supplyE, finOnly, demandFifth, demandSixth, thenFin, once, atMostOnce, repeated, twoSlots, oneOrTwo, stuckSupply, nothingOrOne, examples}
+use Rattle.rules.specs.Examples.{Example, Means, movesAre, marksAre, saysYes, saysNo, runIs, joinIs, joinCount, isStuck}
 use Rattle.rules.proofs.Booleans.{eq-T, and-l, and-r}
 use Rattle.rules.proofs.ListLaws.{all-each}
 
@@ -67,6 +69,7 @@ test (movesAre D S t s l) = sameNumbers (flatMap numbers (survivors (machine D) 
 test (marksAre mode D S l) = sameNumbers (marks mode (machine D) (machine S)) l
 test (saysYes mode D S t s) = ltb t (D .n) && (ltb s (S .n) && eqb (mark mode (machine D) (machine S) t s) 0)
 test (saysNo mode D S t s) = ltb t (D .n) && (ltb s (S .n) && not (eqb (mark mode (machine D) (machine S) t s) 0))
+test (runIs mode D S t s l) = sameNumbers (steps mode (machine D) (machine S) t s) l
 test (joinIs A B J) = sameTable (join (machine A) (machine B)) J
 test (joinCount A B m) = eqb (length (join (machine A) (machine B) .rows)) m
 test (isStuck A q) = ltb q (A .n) && isEmpty (stateMoves (A .rows) q)
@@ -89,6 +92,7 @@ tested (saysYes mode D S t s) h = states t s (D .n) (S .n) (eqb (mark mode (mach
 tested (saysNo mode D S t s) h =
     states t s (D .n) (S .n) (not (eqb (mark mode (machine D) (machine S) t s) 0))
     (λ h e. T-not (eqb (mark mode (machine D) (machine S) t s) 0) h (eq-T (mark mode (machine D) (machine S) t s) 0 e)) h
+tested (runIs mode D S t s l) h = equal-list eqb eqb→eq (steps mode (machine D) (machine S) t s) l h
 tested (joinIs A B J) h = equal-table (join (machine A) (machine B)) J h
 tested (joinCount A B m) h = eqb→eq (length (join (machine A) (machine B) .rows)) m h
 tested (isStuck A q) h =
@@ -96,7 +100,7 @@ tested (isStuck A q) h =
     (ltb→lt q (A .n) (and-l (ltb q (A .n)) empty h), empty-list (stateMoves (A .rows) q) (and-r (ltb q (A .n)) empty h))
 
 passed : T (all test examples)
-unfolding examples test sameNumbers sameList sameTable sameRow flatMap demandE supplyE finOnly demandFifth demandSixth thenFin once atMostOnce repeated twoSlots intersection union difference inside larger maximal rises rowMoves stateMoves leftOf consumedOf unmetOf candidates prunes survivorsOf numbers hasResponse slotHolds pairHolds isPair keeps markBy mark marks disjoint insertRow insertRows joinRows join
+unfolding examples test sameNumbers sameList sameTable sameRow flatMap demandE supplyE finOnly demandFifth demandSixth thenFin once atMostOnce repeated twoSlots oneOrTwo stuckSupply nothingOrOne intersection union difference inside larger maximal rises rowMoves stateMoves leftOf consumedOf unmetOf candidates prunes survivorsOf numbers hasResponse slotHolds pairHolds isPair keeps markBy mark marks first follows struckBy lacksResponse stepTo lastSlot slots steps disjoint insertRow insertRows joinRows join
 passed = tt
 
 -- every example of the table holds

@@ -1,5 +1,6 @@
 pub mod Booleans
 pub mod ListLaws
+pub mod ExampleLaws
 pub mod BelowLaws
 pub mod SliceLaws
 pub mod SetLaws
@@ -7,11 +8,10 @@ pub mod MaximalLaws
 pub mod RowLaws
 pub mod MachineLaws
 pub mod MoveLaws
-pub mod ActionLaws
+pub mod PadsLaws
 pub mod RelationLaws
 pub mod RoundLaws
 pub mod MarkLaws
 pub mod RunLaws
 pub mod StepLaws
 pub mod JoinLaws
-pub mod ExampleLaws

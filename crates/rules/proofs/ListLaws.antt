@@ -1,12 +1,14 @@
 -- Laws of lists: what `any`, `all`, `first` and `keepIf` mean, and how they and `flatMap` go over elements and over lists end to end. Relies on nothing.
-use Prim.Native.Nat.{ℕ, zero, suc, _<_}
+use Prim.Native.Nat.{ℕ, zero, suc, _+_, _*_, _<_}
 use mathlib.Core.Path.{_≡_, refl, sym, ap, ap₂, _∙_, subst}
 use mathlib.Core.Bool.{Bool, true, false, not, cond, _&&_, _||_}
 use mathlib.Core.List.{List, [], _∷_, _++_, map, flatMap, append-assoc, List·Memᴰ, List·Memᴰ·head, List·Memᴰ·tail, List·Memᴰ·not-nil, List·Memᴰ·cases-cons, List·Memᴰ·append-cases, Memᴰ·append-left, Memᴰ·append-right}
 use mathlib.Core.Logic.{_⊎_, inl, inr}
 use native.Mathlib.Omega.{arith}
+use native.Mathlib.Nat.{mul-zero, mul-suc}
 use lib.Dec.{T}
-use lib.ListN.{length, getD}
+use lib.ListN.{length, getD, take, drop, length-append}
+use lib.Seq.{take-at, drop-append-add}
 use Rattle.rules.specs.Lists.{any, all, first, isEmpty, consIf, keepIf, Pairwise}
 use Rattle.rules.proofs.Booleans.{T-or, T-true, T-false, or-false-l, or-false-r, and-i, and-l, and-r, or-l, or-r, or-cases, or-assoc, and-assoc}
 
@@ -288,6 +290,23 @@ module _ {A : Type 0} (d : A) where
   pairwise-getD R (x ∷ xs) p i zero k h = absurd (omega arith)
   pairwise-getD R (x ∷ xs) p zero (suc j) k h = p .0 (getD xs j d) (getD-mem xs j (omega arith))
   pairwise-getD R (x ∷ xs) p (suc i) (suc j) k h = pairwise-getD R xs (p .1) i j (omega arith) (omega arith)
+
+-- lists of w elements each, one after the other: how many elements, and those from w × i on are the i-th list
+module _ {A B : Type 0} (f : A → List B) (w : ℕ) (long : (x : A) → length (f x) ≡ w) where
+  pub length-flatMap : (l : List A) → length (flatMap f l) ≡ w * length l
+  unfolding flatMap
+  length-flatMap [] = sym (mul-zero w)
+  length-flatMap (x ∷ xs) = omega (arith, length-append (f x) (flatMap f xs), length-flatMap xs, long x, mul-suc w (length xs))
+
+  pub flatMap-part : (d : A) (l : List A) (rest : List B) (i : ℕ) → i < length l → take w (drop (w * i) (flatMap f l ++ rest)) ≡ f (getD l i d)
+  unfolding flatMap
+  flatMap-part d [] rest i h = absurd (omega arith)
+  flatMap-part d (x ∷ xs) rest zero h =
+      ap₂ (λ (k : ℕ) (l : List B). take w (drop k l)) (mul-zero w) (append-assoc (f x) (flatMap f xs) rest) ∙ take-at (f x) (flatMap f xs ++ rest) w (long x)
+  flatMap-part d (x ∷ xs) rest (suc i) h =
+      let next : w * suc i ≡ length (f x) + w * i = omega (arith, long x, mul-suc w i) in
+      ap₂ (λ (k : ℕ) (l : List B). take w (drop k l)) next (append-assoc (f x) (flatMap f xs) rest)
+      ∙ ap (take w) (drop-append-add (f x) (flatMap f xs ++ rest) (w * i)) ∙ flatMap-part d xs rest i (omega arith)
 
 -- every element that passes p passes q exactly if none passes both p and the opposite of q
 pub all-any : {A : Type 0} (p q r : A → Bool) → ((x : A) → r x ≡ not (q x)) → (l : List A) → all (λ x. not (p x) || q x) l ≡ not (any (λ x. p x && r x) l)

@@ -4,7 +4,7 @@ use mathlib.Core.Path.{_≡_, refl, sym, ap, _∙_}
 use mathlib.Core.List.{List, [], _∷_, _++_}
 use mathlib.Core.Logic.{_⊎_, inl, inr}
 use native.Mathlib.Omega.{arith}
-use lib.ListN.{length, getD, drop, set, length-set, List·getD-append}
+use lib.ListN.{length, getD, drop, set, length-set, length-append, List·getD-append}
 use lib.Seq.{getD-set-same, getD-set-other}
 use Rattle.rules.specs.Slices.{writeAt, overwrite}
 
@@ -36,6 +36,11 @@ writeAt-overwrite (x ∷ xs) (y ∷ ys) h = writeAt-tail 0 xs x ys ∙ ap (λ (z
 
 pub length-overwrite : (xs l : List ℕ) → length xs ≤ length l → length (overwrite xs l) ≡ length l
 length-overwrite xs l h = ap length (sym (writeAt-overwrite xs l h)) ∙ length-writeAt 0 xs l
+
+-- all that is written stands there
+pub overwrite-long : (xs l : List ℕ) → length xs ≤ length (overwrite xs l)
+unfolding overwrite
+overwrite-long xs l = omega (arith, length-append xs (drop (length xs) l))
 
 -- the entries that are written over
 pub overwrite-entry : (xs l : List ℕ) (i : ℕ) → i < length xs → getD (overwrite xs l) i 0 ≡ getD xs i 0

@@ -268,7 +268,7 @@ module _ (s : List ℕ) where
 
   -- what an answer of Open tells of the file
   pub tables-passed : (k : ℕ) → opened (Tables k) ≡ openOf s → (fileFault s ≡ Passed) × (tablesOf s ≡ k)
-  unfolding openOf
+  unfolding openOf answer
   tables-passed k e = go (fileFault s) refl e
     where
       go : (c : Checked) → fileFault s ≡ c → opened (Tables k) ≡ answer c (tablesOf s ∷ []) → (fileFault s ≡ Passed) × (tablesOf s ≡ k)
@@ -276,7 +276,7 @@ module _ (s : List ℕ) where
       go (Fault r) p q = let v : k ∷ [] ≡ [] = ap (λ (a : Answer). a .values) q in absurd (no-values v)
 
   pub refused-fault : (r : Refusal) → opened (Refused r) ≡ openOf s → fileFault s ≡ Fault r
-  unfolding openOf
+  unfolding openOf answer
   refused-fault r e = go (fileFault s) refl e
     where
       go : (c : Checked) → fileFault s ≡ c → opened (Refused r) ≡ answer c (tablesOf s ∷ []) → fileFault s ≡ Fault r
@@ -290,7 +290,7 @@ module _ (s : List ℕ) where
   opened-laid k e = accepted-laid k (opened-accepted k e)
 
   pub accepted-opened : (k : ℕ) → Accepted s k → openOf s ≡ carriedOut (k ∷ [])
-  unfolding openOf
+  unfolding openOf answer
   accepted-opened k a = rw (accepted-passed k a, a .count)
 
 -- ---- a table's rows

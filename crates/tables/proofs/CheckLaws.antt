@@ -1,15 +1,18 @@
--- Laws of checks made one after the other. Relies on nothing.
+-- Laws of checks made one after the other, and of the answers that they give. Relies on nothing.
 use Prim.Native.Nat.{ℕ, zero, suc, _+_, _≤_, _<_}
-use mathlib.Core.Path.{_≡_, refl, sym, _∙_}
+use mathlib.Core.Path.{_≡_, refl, sym, ap, _∙_}
 use mathlib.Core.Bool.{Bool, true, false}
+use mathlib.Core.List.{List, [], _∷_}
 use mathlib.Core.Logic.{⊎-elim}
 use native.Mathlib.Nat.{le-of-suc-le-suc, not-suc-le-zero, eq-or-lt-of-le}
 use native.Mathlib.Numerals.{add-one}
 use native.Mathlib.Omega.{arith}
+use lib.ListN.{length}
 use Rattle.tables.specs.declared.Refusal.{Refusal}
 use Rattle.tables.specs.declared.Checked.{Checked}
 use Rattle.tables.specs.declared.Checked.the-variants.{Passed, Fault}
 use Rattle.tables.specs.Checks.{fault, _then_, scan}
+use Rattle.tables.specs.Answers.{Answer, answer, turnedBack, carriedOut, sliceAfter}
 
 -- a check that passes has a test that fails, and the other way round
 pub fault-passed : (t : Bool) (n p : ℕ) → fault t n p ≡ Passed → t ≡ false
@@ -46,10 +49,40 @@ pub then-goes : (a b c d : Checked) → c ≡ a → c ≡ Passed → d ≡ b →
 unfolding _then_
 then-goes a b c d p q e = rw (sym p, q) e
 
+pub then-fault : (a b : Checked) (r : Refusal) → a ≡ Fault r → a then b ≡ Fault r
+unfolding _then_
+then-fault a b r e = rw e refl
+
 pub then-assoc : (a b c : Checked) → (a then b) then c ≡ a then (b then c)
 unfolding _then_
 then-assoc Passed b c = refl
 then-assoc (Fault r) b c = refl
+
+-- ---- what a call answers, by what its checks find
+
+-- turned back: the refusal is the answer, and a lent slice is unchanged
+pub turned-back : (c : Checked) (r : Refusal) (values written entry : List ℕ) → c ≡ Fault r
+    → (turnedBack r ≡ answer c values) × (entry ≡ sliceAfter c written entry)
+unfolding answer sliceAfter
+turned-back c r values written entry e = (rw e refl, rw e refl)
+
+-- carried out: the values are the answer, and what is written is left
+pub carried-out : (c : Checked) (values written entry : List ℕ) → c ≡ Passed
+    → (carriedOut values ≡ answer c values) × (written ≡ sliceAfter c written entry)
+unfolding answer sliceAfter
+carried-out c values written entry e = (rw e refl, rw e refl)
+
+-- a call that returns values passed its checks
+pub passed : (c : Checked) (x : ℕ) (xs values : List ℕ) → answer c values ≡ carriedOut (x ∷ xs) → (c ≡ Passed) × (values ≡ x ∷ xs)
+unfolding answer
+passed Passed x xs values e = (refl, ap (λ (a : Answer). a .values) e)
+passed (Fault r) x xs values e = let none : 0 ≡ suc (length xs) = ap (λ (a : Answer). length (a .values)) e in absurd (omega arith)
+
+-- checks that turn a call back do so whatever it would return
+pub turned-whatever : (c : Checked) (r : Refusal) (x : ℕ) (xs values : List ℕ) → turnedBack r ≡ answer c (x ∷ xs) → turnedBack r ≡ answer c values
+unfolding answer
+turned-whatever Passed r x xs values e = let none : 0 ≡ suc (length xs) = ap (λ (a : Answer). length (a .values)) e in absurd (omega arith)
+turned-whatever (Fault q) r x xs values e = e
 
 -- ---- a row of checks
 

@@ -7,10 +7,12 @@ use native.Mathlib.Nat.{le-of-suc-le-suc, eq-or-lt-of-le}
 use native.Mathlib.Numerals.{add-one}
 use native.Mathlib.Omega.{arith}
 use lib.ListN.{length, take, drop, length-take, length-drop, List·getD-eq-default}
+use borrow.Author.Tests.{le-ltb}
 use Rattle.rules.specs.Rows.{row}
 use Rattle.tables.specs.declared.reads.Entry.{Entry}
 use Rattle.tables.specs.File.{byteAt, wordAt, tablesOf, entryPlace, entryOf, bodyLength, endBefore, bodyOf, rowPlace, rowOf}
 use Rattle.tables.specs.Checks.{scan}
+use Rattle.tables.specs.Part.{span, entrySpan}
 use Rattle.tables.specs.Open.{rowFault, bodyFault}
 
 module _ (s : List ℕ) where
@@ -71,6 +73,11 @@ module _ (s : List ℕ) where
   pub body-length : (i : ℕ) → entryOf s i .offset + bodyLength (entryOf s i) ≤ length s → length (bodyOf s i) ≡ bodyLength (entryOf s i)
   unfolding bodyOf
   body-length i l = simp (length-take, length-drop) (omega arith)
+
+  -- so its part is where its entry tells
+  pub span-within : (e : Entry) → e .offset + bodyLength e ≤ length s → entrySpan (length s) e ≡ span (e .offset) (bodyLength e)
+  unfolding entrySpan
+  span-within e l = rw (le-ltb (length s) (e .offset + bodyLength e) l) refl
 
   -- tables of at most 512 rows: where their bodies end at most
   pub end-most : (i : ℕ) → ((j : ℕ) → j < i → entryOf s j .rows ≤ 512) → endBefore s i ≤ 2 + 6 * tablesOf s + 2048 * i

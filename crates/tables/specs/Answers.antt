@@ -21,9 +21,14 @@ abbrev pub carriedOut : List ℕ → Answer
 carriedOut values = record { number = 0; place = 0; values = values }
 
 -- "A call to which no number applies is carried out."
-abbrev pub answer : Checked → List ℕ → Answer
+unfoldable pub answer : Checked → List ℕ → Answer
 answer Passed values = carriedOut values
 answer (Fault r) values = turnedBack r
+
+-- what a lent slice holds at the end: "All lent buffers then hold what they held", where a call is turned back
+unfoldable pub sliceAfter : Checked → List ℕ → List ℕ → List ℕ
+sliceAfter Passed written entry = written
+sliceAfter (Fault r) written entry = entry
 
 -- the number and the place alone
 abbrev pub refusalOf : Answer → Refusal

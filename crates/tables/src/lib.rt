@@ -1,4 +1,4 @@
-// The file of tables: opening it, the body of a table, the readers of contents entries, of a table's n and of body rows, and the writer of a body row.
+// The file of tables: opening it, the body of a table, and the readers of contents entries, of a table's n and of body rows. All are total.
 // What an accepted file guarantees is `Accepted` in specs, shown in proofs/AcceptedLaws. Relies on `rules` for rows and limits.
 ghost use mathlib.Core.Path.{_≡_};
 ghost use Rattle.tables.specs.Checks.{refuse};
@@ -9,14 +9,12 @@ ghost use Rattle.tables.specs.Body.{bodyAnswer, bodySpan};
 
 mod checks;
 mod reads;
-mod writes;
 
 pub use reads::Entry;
 pub use reads::entry_at;
 pub use reads::entry_body;
 pub use reads::row_at;
 pub use reads::states_of;
-pub use writes::write_row;
 
 // Why a call is turned back: document 01's number, and the place at fault. 0 and 0 where it is carried out.
 pub struct Refusal {

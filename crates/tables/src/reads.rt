@@ -1,9 +1,9 @@
 // Readers of the file's fields. Each is total: a byte past the end is 0.
 ghost use mathlib.Core.Path.{_≡_};
-ghost use Prim.Native.Nat.{_+_, _*_, _≤_};
+ghost use Prim.Native.Nat.{_+_, _*_};
 ghost use lib.ListN.{length};
 ghost use Rattle.tables.specs.File.{byteAt, wordAt, entryOf, bodyLength, rowOf};
-ghost use Rattle.tables.specs.Part.{PartOf, span};
+ghost use Rattle.tables.specs.Part.{PartOf, entrySpan};
 ghost use Rattle.tables.specs.Tables.{tableOf};
 use rules::Row;
 
@@ -78,13 +78,15 @@ pub fn states_of(file: &[u8], i: usize) -> u8
     entry_at(file, i).states
 }
 
-// The part of a file that holds the body of an entry.
+// The part of a file that holds the body of an entry; where the file is shorter, the empty part at its start.
 pub fn entry_body(file: &[u8], entry: Entry) -> &[u8]
-    requires { ⌜ entry .offset + bodyLength entry ≤ length (now file) ⌝ }
-    ensures { λ r. ⌜ PartOf (file .entry) r (span (entry .offset) (bodyLength entry)) ⌝ }
+    ensures { λ r. ⌜ PartOf (file .entry) r (entrySpan (length (now (file .entry))) entry) ⌝ }
 {
     let start = entry.offset as usize;
     let end = start + entry.body_length();
+    if file.len() < end {
+        return &file[..0];
+    }
     &file[start..end]
 }
 

@@ -3,11 +3,15 @@ use denote.Ref.{now}
 use mathlib.Core.Path.{refl}
 use native.Mathlib.Omega.{arith}
 use Rattle.tables.specs.Body.{bodySpan}
+use Rattle.tables.proofs.FileLaws.{span-within}
 use Rattle.tables.proofs.BodyLaws.{body-refused, body-missing, body-there}
 use Rattle.tables.proofs.AcceptedLaws.{opened-laid}
 use borrow.Author.Needs.{needs}
 use Rattle.tables.proofs.body.Statement.{statement}
 use Rattle.tables.proofs.body.Tie as tie
+use Rattle.tables.proofs.open.Reads as open-reads
+use Rattle.tables.proofs.reads.entry_at.Reads as entry-at-reads
+use Rattle.tables.proofs.reads.entry_body.Reads as entry-body-reads
 
 open-requires : tie.Need-open-requires
 open-requires c κs = search needs
@@ -29,13 +33,11 @@ entry-at-requires : tie.Need-entry-at-requires
 entry-at-requires c κs = search needs
 
 entry-body-requires : tie.Need-entry-body-requires
-entry-body-requires c κs =
-    let laid = opened-laid (now (c .before .before .before .before .before .before .before .args .file)) _ (rw (c .before .before .before .found .given .1) at (c .before .before .before .before .before .«open» .ensures)) in
-    rw (c .entry-at .ensures) (laid .within _ (omega arith))
+entry-body-requires c κs = search needs
 
 returns-2 : tie.Need-returns-2
 unfolding bodySpan
-returns-2 c = rw (body-there _ _ _ (c .before .before .before .before .before .before .«open» .ensures) _ (c .before .before .before .before .found .given .1) (c .before .before .if1 .taken), ← (c .before .entry-at .ensures)) (c .entry-body .ensures)
+returns-2 c = let laid = opened-laid (now (c .before .before .before .before .before .before .before .before .args .file)) _ (rw (c .before .before .before .before .found .given .1) at (c .before .before .before .before .before .before .«open» .ensures)) in rw (body-there _ _ _ (c .before .before .before .before .before .before .«open» .ensures) _ (c .before .before .before .before .found .given .1) (c .before .before .if1 .taken), ← (c .before .entry-at .ensures)) (rw (span-within (now (c .before .before .before .before .before .before .before .before .args .file)) (c .before .entry-at .result) (rw (c .before .entry-at .ensures) (laid .within _ (c .before .before .if1 .taken)))) at (c .entry-body .ensures))
 
 slice-aggregate-result-2 : tie.Need-slice-aggregate-result-2
 slice-aggregate-result-2 c = search needs

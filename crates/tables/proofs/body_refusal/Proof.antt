@@ -2,6 +2,7 @@
 use denote.Ref.{now}
 use Rattle.tables.specs.Body.{bodyAnswer}
 use Rattle.tables.proofs.BodyLaws.{body-refused, body-missing, body-there}
+use Rattle.tables.specs.Answers.{answer}
 use borrow.Author.Needs.{needs}
 use Rattle.tables.proofs.body_refusal.Statement.{statement}
 use Rattle.tables.proofs.body_refusal.Tie as tie
@@ -19,21 +20,21 @@ refusal-of-requires : tie.Need-refusal-of-requires
 refusal-of-requires c κs = search needs
 
 returns : tie.Need-returns
-unfolding bodyAnswer
+unfolding bodyAnswer answer
 returns c = simp (body-refused (now (c .before .before .before .before .before .args .file)) (c .before .before .before .before .before .args .table) _ (c .before .before .before .«open» .ensures) _ (c .before .enum-told .given .1), c .refusal-of .ensures, c .before .enum-told .given .1)
 
 new-requires : tie.Need-new-requires
 new-requires c κs = search needs
 
 returns-2 : tie.Need-returns-2
-unfolding bodyAnswer
+unfolding bodyAnswer answer
 returns-2 c = simp (body-missing (now (c .before .before .before .before .before .before .before .args .file)) (c .before .before .before .before .before .before .before .args .table) _ (c .before .before .before .before .before .«open» .ensures) _ (c .before .before .before .found .given .1) (c .before .if1 .taken), c .new .ensures)
 
 new-requires-2 : tie.Need-new-requires-2
 new-requires-2 c κs = search needs
 
 returns-3 : tie.Need-returns-3
-unfolding bodyAnswer
+unfolding bodyAnswer answer
 returns-3 c = simp (body-there (now (c .before .before .before .before .before .before .before .args .file)) (c .before .before .before .before .before .before .before .args .table) _ (c .before .before .before .before .before .«open» .ensures) _ (c .before .before .before .found .given .1) (c .before .if1 .left), c .new2 .ensures)
 
 pub body-refusal-spec : {M : Type 1} → statement M

@@ -1,5 +1,6 @@
 -- `tables::open` meets its contract. By what the checks of the file find.
 use Rattle.tables.specs.Open.{openOf}
+use Rattle.tables.specs.Answers.{answer}
 use borrow.Author.Needs.{needs}
 use Rattle.tables.proofs.open.Statement.{statement}
 use Rattle.tables.proofs.open.Tie as tie
@@ -20,11 +21,11 @@ cast-t6 : tie.Need-cast-t6
 cast-t6 c = search needs
 
 returns : tie.Need-returns
-unfolding openOf
+unfolding openOf answer
 returns c = simp (← (c .before .before .before .check-file .ensures), c .before .refusal .given .1)
 
 returns-2 : tie.Need-returns-2
-unfolding openOf
+unfolding openOf answer
 returns-2 c = simp (← (c .before .before .before .check-file .ensures), c .before .enum-told .given .1, c .word .ensures)
 
 pub open-spec : {M : Type 1} → statement M

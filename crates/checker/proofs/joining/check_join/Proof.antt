@@ -1,15 +1,21 @@
 -- `checker::joining::check_join` meets its contract. Each answer is the first check that finds a fault.
+use denote.Ref.{now}
 use Prim.Native.Nat.{_*_}
 use mathlib.Core.Path.{refl, ap₂, _∙_}
 use native.Mathlib.Omega.{arith}
 use borrow.Author.Tests.{lt-ltb, le-ltb}
 use Rattle.rules.proofs.BelowLaws.{small-product}
-use Rattle.tables.specs.Checks.{fault, _then_}
-use Rattle.checker.specs.Named.{namedFault}
-use Rattle.checker.specs.Join.{joinFault}
+use Rattle.tables.specs.Checks.{fault}
+use Rattle.tables.proofs.CheckLaws.{then-stops, then-goes}
+use Rattle.checker.specs.Named.{namedChecks}
+use Rattle.checker.specs.Join.{sizeChecks}
 use borrow.Author.Needs.{needs}
 use Rattle.checker.proofs.joining.check_join.Statement.{statement}
 use Rattle.checker.proofs.joining.check_join.Tie as tie
+use Rattle.checker.proofs.named.Named.demand.Reads as demand-reads
+use Rattle.checker.proofs.named.check_named.Reads as check-named-reads
+use Rattle.tables.proofs.Refusal.new.Reads as new-reads
+use Rattle.tables.proofs.states_of.Reads as states-of-reads
 
 demand-requires : tie.Need-demand-requires
 demand-requires c κs = search needs
@@ -20,15 +26,15 @@ demand-requires-2 c κs = search needs
 check-named-requires : tie.Need-check-named-requires
 check-named-requires c κs = search needs
 
-enum-known-refusal : tie.Need-enum-known-refusal
-enum-known-refusal c = search needs
-
-returns : tie.Need-returns
-unfolding joinFault _then_
-returns c = rw (← (c .before .before .before .check-named .ensures ∙ ap₂ (namedFault (c .before .before .before .before .before .before .before .args .file .now) (c .before .before .before .before .before .before .before .args .k)) (c .before .before .before .before .before .demand .ensures) (c .before .before .before .before .demand2 .ensures)), c .before .refusal .given .1) refl
-
 enum-told : tie.Need-enum-told
 enum-told c = search needs
+
+returns : tie.Need-returns
+unfolding sizeChecks
+returns c = then-stops _ _ _ _ (c .before .before .check-named .ensures ∙ ap₂ (namedChecks (now (c .before .before .before .before .before .before .args .file))) (c .before .before .before .before .demand .ensures) (c .before .before .before .demand2 .ensures)) (c .enum-told .given .1)
+
+enum-told-2 : tie.Need-enum-told-2
+enum-told-2 c = search needs
 
 states-of-requires : tie.Need-states-of-requires
 states-of-requires c κs = search needs
@@ -49,12 +55,12 @@ new-requires : tie.Need-new-requires
 new-requires c κs = search needs
 
 returns-2 : tie.Need-returns-2
-unfolding joinFault _then_ fault
-returns-2 c = simp (← (c .before .before .before .before .before .before .check-named .ensures ∙ ap₂ (namedFault (c .before .before .before .before .before .before .before .before .before .before .args .file .now) (c .before .before .before .before .before .before .before .before .before .before .args .k)) (c .before .before .before .before .before .before .before .before .demand .ensures) (c .before .before .before .before .before .before .before .demand2 .ensures)), c .before .before .before .before .enum-told .given .1, ← c .before .before .before .states-of .ensures, ← c .before .before .states-of2 .ensures, lt-ltb 64 (c .before .before .before .states-of .result * c .before .before .states-of2 .result) (let above = c .before .if1 .taken in omega arith), c .new .ensures) refl
+unfolding sizeChecks fault
+returns-2 c = then-goes _ _ _ _ (c .before .before .before .before .before .before .check-named .ensures ∙ ap₂ (namedChecks (now (c .before .before .before .before .before .before .before .before .before .before .args .file))) (c .before .before .before .before .before .before .before .before .demand .ensures) (c .before .before .before .before .before .before .before .demand2 .ensures)) (c .before .before .before .before .enum-told2 .given .1) (simp (← c .before .before .before .states-of .ensures, ← c .before .before .states-of2 .ensures, lt-ltb 64 (c .before .before .before .states-of .result * c .before .before .states-of2 .result) (let above = c .before .if1 .taken in omega arith), c .new .ensures) refl)
 
 returns-3 : tie.Need-returns-3
-unfolding joinFault _then_ fault
-returns-3 c = simp (← (c .before .before .before .before .before .check-named .ensures ∙ ap₂ (namedFault (c .before .before .before .before .before .before .before .before .before .args .file .now) (c .before .before .before .before .before .before .before .before .before .args .k)) (c .before .before .before .before .before .before .before .demand .ensures) (c .before .before .before .before .before .before .demand2 .ensures)), c .before .before .before .enum-told .given .1, ← c .before .before .states-of .ensures, ← c .before .states-of2 .ensures, le-ltb 64 (c .before .before .states-of .result * c .before .states-of2 .result) (let few = c .if1 .left in omega arith)) refl
+unfolding sizeChecks fault
+returns-3 c = then-goes _ _ _ _ (c .before .before .before .before .before .check-named .ensures ∙ ap₂ (namedChecks (now (c .before .before .before .before .before .before .before .before .before .args .file))) (c .before .before .before .before .before .before .before .demand .ensures) (c .before .before .before .before .before .before .demand2 .ensures)) (c .before .before .before .enum-told2 .given .1) (simp (← c .before .before .states-of .ensures, ← c .before .states-of2 .ensures, le-ltb 64 (c .before .before .states-of .result * c .before .states-of2 .result) (let few = c .if1 .left in omega arith)) refl)
 
 pub check-join-spec : {M : Type 1} → statement M
 check-join-spec =
@@ -63,9 +69,9 @@ check-join-spec =
     demand-requires
     demand-requires-2
     check-named-requires
-    enum-known-refusal
-    returns
     enum-told
+    returns
+    enum-told-2
     states-of-requires
     cast-states
     states-of-requires-2

@@ -5,6 +5,10 @@ use Rattle.checker.proofs.JoinLaws.{first-at, second-at, product-is, tw
 use borrow.Author.Needs.{needs}
 use Rattle.checker.proofs.joining.write_join.Statement.{statement}
 use Rattle.checker.proofs.joining.write_join.Tie as tie
+use Rattle.joins.proofs.write.Reads as write-reads
+use Rattle.machines.proofs.load_table.Reads as load-table-reads
+use Rattle.machines.proofs.pair_count.Reads as pair-count-reads
+use Rattle.tables.proofs.Refusal.new.Reads as new-reads
 
 slice-aggregate-load-table : tie.Need-slice-aggregate-load-table
 slice-aggregate-load-table c = search needs
@@ -55,19 +59,19 @@ same-length : tie.Need-same-length
 same-length c = search needs
 
 returns : tie.Need-returns
-returns c = rw (c .new .ensures) (write-answers _ _ _ (c .before .before .before .before .before .before .before .before .before .before .before .before .before .before .before .before .before .before .before .before .pre) _ (product-is _ _ _ (c .before .before .before .before .before .before .before .before .before .before .before .before .before .before .before .before .before .before .before .before .pre) _ (c .before .before .before .before .before .before .before .before .before .before .before .before .before .before .before .before .load-table .ensures .0) _ (c .before .before .before .before .before .before .before .before .before .before .before .before .before .load-table2 .ensures .0) (c .before .before .before .before .before .before .before .before .before .pair-count .ensures)) _ _ _ (rows-found _ _ _ (c .before .before .before .before .before .before .before .before .before .before .before .before .before .before .before .before .before .before .before .before .pre) _ (c .before .before .before .before .before .before .before .before .before .before .before .before .before .before .before .before .load-table .ensures .0) _ (c .before .before .before .before .before .before .before .before .before .before .before .before .before .load-table2 .ensures .0)) _ (c .before .before .before .before .before .write .ensures .0) (c .before .before .before .before .before .write .ensures .1) (c .before .enum-told .given .1))
+returns c = rw (c .new .ensures) (write-answers _ _ _ (c .before .before .before .before .before .before .before .before .before .before .before .before .before .before .before .before .before .before .before .before .pre) _ (product-is _ _ _ (c .before .before .before .before .before .before .before .before .before .before .before .before .before .before .before .before .before .before .before .before .pre) _ (c .before .before .before .before .before .before .before .before .before .before .before .before .before .before .before .before .load-table .ensures .0) _ (c .before .before .before .before .before .before .before .before .before .before .before .before .before .load-table2 .ensures .0) (c .before .before .before .before .before .before .before .before .before .pair-count .ensures)) _ _ _ (rows-found _ _ _ (c .before .before .before .before .before .before .before .before .before .before .before .before .before .before .before .before .before .before .before .before .pre) _ (c .before .before .before .before .before .before .before .before .before .before .before .before .before .before .before .before .load-table .ensures .0) _ (c .before .before .before .before .before .before .before .before .before .before .before .before .before .load-table2 .ensures .0)) (c .before .before .before .before .before .write .ensures .0) (c .before .before .before .before .before .write .ensures .1) (c .before .enum-told .given .1))
 
 same-length-2 : tie.Need-same-length-2
 same-length-2 c = search needs
 
 returns-2 : tie.Need-returns-2
-returns-2 c = rw (c .new2 .ensures) (write-answers _ _ _ (c .before .before .before .before .before .before .before .before .before .before .before .before .before .before .before .before .before .before .before .before .pre) _ (product-is _ _ _ (c .before .before .before .before .before .before .before .before .before .before .before .before .before .before .before .before .before .before .before .before .pre) _ (c .before .before .before .before .before .before .before .before .before .before .before .before .before .before .before .before .load-table .ensures .0) _ (c .before .before .before .before .before .before .before .before .before .before .before .before .before .load-table2 .ensures .0) (c .before .before .before .before .before .before .before .before .before .pair-count .ensures)) _ _ _ (rows-found _ _ _ (c .before .before .before .before .before .before .before .before .before .before .before .before .before .before .before .before .before .before .before .before .pre) _ (c .before .before .before .before .before .before .before .before .before .before .before .before .before .before .before .before .load-table .ensures .0) _ (c .before .before .before .before .before .before .before .before .before .before .before .before .before .load-table2 .ensures .0)) _ (c .before .before .before .before .before .write .ensures .0) (c .before .before .before .before .before .write .ensures .1) (c .before .enum-told2 .given .1))
+returns-2 c = rw (c .new2 .ensures) (write-answers _ _ _ (c .before .before .before .before .before .before .before .before .before .before .before .before .before .before .before .before .before .before .before .before .pre) _ (product-is _ _ _ (c .before .before .before .before .before .before .before .before .before .before .before .before .before .before .before .before .before .before .before .before .pre) _ (c .before .before .before .before .before .before .before .before .before .before .before .before .before .before .before .before .load-table .ensures .0) _ (c .before .before .before .before .before .before .before .before .before .before .before .before .before .load-table2 .ensures .0) (c .before .before .before .before .before .before .before .before .before .pair-count .ensures)) _ _ _ (rows-found _ _ _ (c .before .before .before .before .before .before .before .before .before .before .before .before .before .before .before .before .before .before .before .before .pre) _ (c .before .before .before .before .before .before .before .before .before .before .before .before .before .before .before .before .load-table .ensures .0) _ (c .before .before .before .before .before .before .before .before .before .before .before .before .before .load-table2 .ensures .0)) (c .before .before .before .before .before .write .ensures .0) (c .before .before .before .before .before .write .ensures .1) (c .before .enum-told2 .given .1))
 
 same-length-3 : tie.Need-same-length-3
 same-length-3 c = search needs
 
 returns-3 : tie.Need-returns-3
-returns-3 c = write-answers _ _ _ (c .before .before .before .before .before .before .before .before .before .before .before .before .before .before .before .before .before .before .before .before .pre) _ (product-is _ _ _ (c .before .before .before .before .before .before .before .before .before .before .before .before .before .before .before .before .before .before .before .before .pre) _ (c .before .before .before .before .before .before .before .before .before .before .before .before .before .before .before .before .load-table .ensures .0) _ (c .before .before .before .before .before .before .before .before .before .before .before .before .before .load-table2 .ensures .0) (c .before .before .before .before .before .before .before .before .before .pair-count .ensures)) _ _ _ (rows-found _ _ _ (c .before .before .before .before .before .before .before .before .before .before .before .before .before .before .before .before .before .before .before .before .pre) _ (c .before .before .before .before .before .before .before .before .before .before .before .before .before .before .before .before .load-table .ensures .0) _ (c .before .before .before .before .before .before .before .before .before .before .before .before .before .load-table2 .ensures .0)) _ (c .before .before .before .before .before .write .ensures .0) (c .before .before .before .before .before .write .ensures .1) (c .before .rows .given .1)
+returns-3 c = write-answers _ _ _ (c .before .before .before .before .before .before .before .before .before .before .before .before .before .before .before .before .before .before .before .before .pre) _ (product-is _ _ _ (c .before .before .before .before .before .before .before .before .before .before .before .before .before .before .before .before .before .before .before .before .pre) _ (c .before .before .before .before .before .before .before .before .before .before .before .before .before .before .before .before .load-table .ensures .0) _ (c .before .before .before .before .before .before .before .before .before .before .before .before .before .load-table2 .ensures .0) (c .before .before .before .before .before .before .before .before .before .pair-count .ensures)) _ _ _ (rows-found _ _ _ (c .before .before .before .before .before .before .before .before .before .before .before .before .before .before .before .before .before .before .before .before .pre) _ (c .before .before .before .before .before .before .before .before .before .before .before .before .before .before .before .before .load-table .ensures .0) _ (c .before .before .before .before .before .before .before .before .before .before .before .before .before .load-table2 .ensures .0)) (c .before .before .before .before .before .write .ensures .0) (c .before .before .before .before .before .write .ensures .1) (c .before .rows .given .1)
 
 pub write-join-spec : {M : Type 1} → statement M
 write-join-spec =

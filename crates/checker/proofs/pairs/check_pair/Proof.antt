@@ -1,12 +1,19 @@
 -- `checker::pairs::check_pair` meets its contract. Each answer is the first check that finds a fault.
+use denote.Ref.{now}
 use mathlib.Core.Path.{refl, ap₂, _∙_}
 use borrow.Author.Tests.{le-leb, lt-leb}
 use Rattle.tables.specs.Checks.{fault, _then_}
-use Rattle.checker.specs.Named.{namedFault}
-use Rattle.checker.specs.Pairs.{pairFault}
+use Rattle.tables.proofs.CheckLaws.{then-stops, then-goes}
+use Rattle.checker.specs.Named.{namedChecks}
+use Rattle.checker.specs.Pairs.{pairChecks}
 use borrow.Author.Needs.{needs}
 use Rattle.checker.proofs.pairs.check_pair.Statement.{statement}
 use Rattle.checker.proofs.pairs.check_pair.Tie as tie
+use Rattle.checker.proofs.named.Named.demand.Reads as demand-reads
+use Rattle.checker.proofs.named.Named.supply.Reads as supply-reads
+use Rattle.checker.proofs.named.check_named.Reads as check-named-reads
+use Rattle.tables.proofs.Refusal.new.Reads as new-reads
+use Rattle.tables.proofs.states_of.Reads as states-of-reads
 
 demand-requires : tie.Need-demand-requires
 demand-requires c κs = search needs
@@ -17,15 +24,15 @@ supply-requires c κs = search needs
 check-named-requires : tie.Need-check-named-requires
 check-named-requires c κs = search needs
 
-enum-known-refusal : tie.Need-enum-known-refusal
-enum-known-refusal c = search needs
-
-returns : tie.Need-returns
-unfolding pairFault _then_
-returns c = rw (← (c .before .before .before .check-named .ensures ∙ ap₂ (namedFault (c .before .before .before .before .before .before .before .args .file .now) (c .before .before .before .before .before .before .before .args .k)) (c .before .before .before .before .before .demand .ensures) (c .before .before .before .before .supply .ensures)), c .before .refusal .given .1) refl
-
 enum-told : tie.Need-enum-told
 enum-told c = search needs
+
+returns : tie.Need-returns
+unfolding pairChecks
+returns c = then-stops _ _ _ _ (c .before .before .check-named .ensures ∙ ap₂ (namedChecks (now (c .before .before .before .before .before .before .args .file))) (c .before .before .before .before .demand .ensures) (c .before .before .before .supply .ensures)) (c .enum-told .given .1)
+
+enum-told-2 : tie.Need-enum-told-2
+enum-told-2 c = search needs
 
 states-of-requires : tie.Need-states-of-requires
 states-of-requires c κs = search needs
@@ -37,8 +44,8 @@ new-requires : tie.Need-new-requires
 new-requires c κs = search needs
 
 returns-2 : tie.Need-returns-2
-unfolding pairFault _then_ fault
-returns-2 c = simp (← (c .before .before .before .before .before .before .check-named .ensures ∙ ap₂ (namedFault (c .before .before .before .before .before .before .before .before .before .before .args .file .now) (c .before .before .before .before .before .before .before .before .before .before .args .k)) (c .before .before .before .before .before .before .before .before .demand .ensures) (c .before .before .before .before .before .before .before .supply .ensures)), c .before .before .before .before .enum-told .given .1, ← c .before .before .before .states-of .ensures, le-leb _ _ (c .before .if1 .taken), c .new .ensures) refl
+unfolding pairChecks _then_ fault
+returns-2 c = then-goes _ _ _ _ (c .before .before .before .before .before .before .check-named .ensures ∙ ap₂ (namedChecks (now (c .before .before .before .before .before .before .before .before .before .before .args .file))) (c .before .before .before .before .before .before .before .before .demand .ensures) (c .before .before .before .before .before .before .before .supply .ensures)) (c .before .before .before .before .enum-told2 .given .1) (simp (← c .before .before .before .states-of .ensures, le-leb _ _ (c .before .if1 .taken), c .new .ensures) refl)
 
 states-of-requires-2 : tie.Need-states-of-requires-2
 states-of-requires-2 c κs = search needs
@@ -50,12 +57,12 @@ new-requires-2 : tie.Need-new-requires-2
 new-requires-2 c κs = search needs
 
 returns-3 : tie.Need-returns-3
-unfolding pairFault _then_ fault
-returns-3 c = simp (← (c .before .before .before .before .before .before .before .before .before .check-named .ensures ∙ ap₂ (namedFault (c .before .before .before .before .before .before .before .before .before .before .before .before .before .args .file .now) (c .before .before .before .before .before .before .before .before .before .before .before .before .before .args .k)) (c .before .before .before .before .before .before .before .before .before .before .before .demand .ensures) (c .before .before .before .before .before .before .before .before .before .before .supply .ensures)), c .before .before .before .before .before .before .before .enum-told .given .1, ← c .before .before .before .before .before .before .states-of .ensures, ← c .before .before .before .states-of2 .ensures, lt-leb _ _ (c .before .before .before .before .if1 .left), le-leb _ _ (c .before .if2 .taken), c .new2 .ensures) refl
+unfolding pairChecks _then_ fault
+returns-3 c = then-goes _ _ _ _ (c .before .before .before .before .before .before .before .before .before .check-named .ensures ∙ ap₂ (namedChecks (now (c .before .before .before .before .before .before .before .before .before .before .before .before .before .args .file))) (c .before .before .before .before .before .before .before .before .before .before .before .demand .ensures) (c .before .before .before .before .before .before .before .before .before .before .supply .ensures)) (c .before .before .before .before .before .before .before .enum-told2 .given .1) (simp (← c .before .before .before .before .before .before .states-of .ensures, ← c .before .before .before .states-of2 .ensures, lt-leb _ _ (c .before .before .before .before .if1 .left), le-leb _ _ (c .before .if2 .taken), c .new2 .ensures) refl)
 
 returns-4 : tie.Need-returns-4
-unfolding pairFault _then_ fault
-returns-4 c = simp (← (c .before .before .before .before .before .before .before .before .check-named .ensures ∙ ap₂ (namedFault (c .before .before .before .before .before .before .before .before .before .before .before .before .args .file .now) (c .before .before .before .before .before .before .before .before .before .before .before .before .args .k)) (c .before .before .before .before .before .before .before .before .before .before .demand .ensures) (c .before .before .before .before .before .before .before .before .before .supply .ensures)), c .before .before .before .before .before .before .enum-told .given .1, ← c .before .before .before .before .before .states-of .ensures, ← c .before .before .states-of2 .ensures, lt-leb _ _ (c .before .before .before .if1 .left), lt-leb _ _ (c .if2 .left)) refl
+unfolding pairChecks _then_ fault
+returns-4 c = then-goes _ _ _ _ (c .before .before .before .before .before .before .before .before .check-named .ensures ∙ ap₂ (namedChecks (now (c .before .before .before .before .before .before .before .before .before .before .before .before .args .file))) (c .before .before .before .before .before .before .before .before .before .before .demand .ensures) (c .before .before .before .before .before .before .before .before .before .supply .ensures)) (c .before .before .before .before .before .before .enum-told2 .given .1) (simp (← c .before .before .before .before .before .states-of .ensures, ← c .before .before .states-of2 .ensures, lt-leb _ _ (c .before .before .before .if1 .left), lt-leb _ _ (c .if2 .left)) refl)
 
 pub check-pair-spec : {M : Type 1} → statement M
 check-pair-spec =
@@ -64,9 +71,9 @@ check-pair-spec =
     demand-requires
     supply-requires
     check-named-requires
-    enum-known-refusal
-    returns
     enum-told
+    returns
+    enum-told-2
     states-of-requires
     cast-if1
     new-requires

@@ -5,6 +5,7 @@ use Rattle.checker.proofs.PairLaws.{asked-demand, asked-supply, state-n
 use borrow.Author.Needs.{needs}
 use Rattle.checker.proofs.pairs.load_pair.Statement.{statement}
 use Rattle.checker.proofs.pairs.load_pair.Tie as tie
+use Rattle.machines.proofs.load_table.Reads as load-table-reads
 
 load-table-requires : tie.Need-load-table-requires
 load-table-requires c κs = table-loads _ _ _ (asked-demand _ _ (c .before .before .before .before .pre .0)) _ (c .before .before .before .before .pre .1)

@@ -2,11 +2,16 @@
 use native.Mathlib.Omega.{arith}
 use Rattle.tables.specs.Checks.{refuse}
 use Rattle.checker.proofs.PairLaws.{pairs-are, pairs-few}
-use Rattle.checker.proofs.DecideLaws.{short-fault}
+use Rattle.checker.proofs.DecideLaws.{mode-asked, short-fault}
 use Rattle.checker.proofs.RunLaws.{decide-fault, run-turned-back, steps-fault, run-starts, run-carried-out}
 use borrow.Author.Needs.{needs}
 use Rattle.checker.proofs.pairs.write_run.Statement.{statement}
 use Rattle.checker.proofs.pairs.write_run.Tie as tie
+use Rattle.checker.proofs.pairs.load_pair.Reads as load-pair-reads
+use Rattle.checker.proofs.pairs.mode_of.Reads as mode-of-reads
+use Rattle.machines.proofs.pair_count.Reads as pair-count-reads
+use Rattle.runs.proofs.write.Reads as write-reads
+use Rattle.tables.proofs.Refusal.new.Reads as new-reads
 
 slice-aggregate-load-pair : tie.Need-slice-aggregate-load-pair
 slice-aggregate-load-pair c = search needs
@@ -15,7 +20,7 @@ slice-aggregate-load-pair-2 : tie.Need-slice-aggregate-load-pair-2
 slice-aggregate-load-pair-2 c = search needs
 
 load-pair-requires : tie.Need-load-pair-requires
-load-pair-requires c κs = (c .before .before .before .before .before .pre .0, omega arith, omega arith)
+load-pair-requires c κs = (mode-asked _ _ _ (c .before .before .before .before .before .pre), omega arith, omega arith)
 
 slice-aggregate-pair-count : tie.Need-slice-aggregate-pair-count
 slice-aggregate-pair-count c = search needs
@@ -30,7 +35,7 @@ new-requires : tie.Need-new-requires
 new-requires c κs = search needs
 
 returns : tie.Need-returns
-returns c = rw (c .new .ensures) (run-turned-back _ _ _ (refuse 14 0) _ _ (decide-fault _ _ _ _ _ _ (short-fault _ _ _ (c .before .before .before .before .before .before .before .before .before .before .before .before .before .pre .0) (c .before .before .before .before .before .before .before .before .before .before .before .before .before .pre .1) _ (rw (← pairs-are (c .before .before .before .before .before .before .before .load-pair .ensures .1 .0) (c .before .before .pair-count .ensures)) (c .before .if1 .taken)))))
+returns c = rw (c .new .ensures) (run-turned-back _ _ _ (refuse 14 0) _ _ (decide-fault _ _ _ _ _ _ (short-fault _ _ _ (c .before .before .before .before .before .before .before .before .before .before .before .before .before .pre) _ (rw (← pairs-are (c .before .before .before .before .before .before .before .load-pair .ensures .1 .0) (c .before .before .pair-count .ensures)) (c .before .if1 .taken)))))
 
 mul-if2 : tie.Need-mul-if2
 mul-if2 c = let few = pairs-few (c .before .before .before .before .before .before .load-pair .ensures .1 .0) (c .before .pair-count .ensures) in omega arith
@@ -39,7 +44,7 @@ new-requires-2 : tie.Need-new-requires-2
 new-requires-2 c κs = search needs
 
 returns-2 : tie.Need-returns-2
-returns-2 c = rw (c .new2 .ensures) (run-turned-back _ _ _ (refuse 14 0) _ _ (steps-fault _ _ _ (c .before .before .before .before .before .before .before .before .before .before .before .before .before .before .pre .0) (c .before .before .before .before .before .before .before .before .before .before .before .before .before .before .pre .1) _ (rw (← pairs-are (c .before .before .before .before .before .before .before .before .load-pair .ensures .1 .0) (c .before .before .before .pair-count .ensures)) (c .before .before .if1 .left)) _ (rw (← pairs-are (c .before .before .before .before .before .before .before .before .load-pair .ensures .1 .0) (c .before .before .before .pair-count .ensures)) (c .before .if2 .taken))))
+returns-2 c = rw (c .new2 .ensures) (run-turned-back _ _ _ (refuse 14 0) _ _ (steps-fault _ _ _ (c .before .before .before .before .before .before .before .before .before .before .before .before .before .before .pre) _ (rw (← pairs-are (c .before .before .before .before .before .before .before .before .load-pair .ensures .1 .0) (c .before .before .before .pair-count .ensures)) (c .before .before .if1 .left)) _ (rw (← pairs-are (c .before .before .before .before .before .before .before .before .load-pair .ensures .1 .0) (c .before .before .before .pair-count .ensures)) (c .before .if2 .taken))))
 
 slice-aggregate-write : tie.Need-slice-aggregate-write
 slice-aggregate-write c = search needs
@@ -51,7 +56,7 @@ mode-of-requires : tie.Need-mode-of-requires
 mode-of-requires c κs = search needs
 
 write-requires : tie.Need-write-requires
-write-requires c κs = run-starts _ _ _ (c .before .before .before .before .before .before .before .before .before .before .before .before .before .before .before .before .before .before .pre .0) (c .before .before .before .before .before .before .before .before .before .before .before .before .before .before .before .before .before .before .pre .1) (c .before .before .before .before .before .before .before .before .before .before .before .before .load-pair .ensures .1 .0) _ (c .before .before .mode-of .ensures) (c .before .before .before .before .before .before .before .before .before .before .before .before .load-pair .ensures .0) (rw (← pairs-are (c .before .before .before .before .before .before .before .before .before .before .before .before .load-pair .ensures .1 .0) (c .before .before .before .before .before .before .before .pair-count .ensures)) (c .before .before .before .before .before .before .if1 .left)) (rw (← pairs-are (c .before .before .before .before .before .before .before .before .before .before .before .before .load-pair .ensures .1 .0) (c .before .before .before .before .before .before .before .pair-count .ensures)) (c .before .before .before .before .before .if2 .left))
+write-requires c κs = run-starts _ _ _ (c .before .before .before .before .before .before .before .before .before .before .before .before .before .before .before .before .before .before .pre) (c .before .before .before .before .before .before .before .before .before .before .before .before .load-pair .ensures .1 .0) _ (c .before .before .mode-of .ensures) (c .before .before .before .before .before .before .before .before .before .before .before .before .load-pair .ensures .0) (rw (← pairs-are (c .before .before .before .before .before .before .before .before .before .before .before .before .load-pair .ensures .1 .0) (c .before .before .before .before .before .before .before .pair-count .ensures)) (c .before .before .before .before .before .before .if1 .left)) (rw (← pairs-are (c .before .before .before .before .before .before .before .before .before .before .before .before .load-pair .ensures .1 .0) (c .before .before .before .before .before .before .before .pair-count .ensures)) (c .before .before .before .before .before .if2 .left))
 
 cast-t19 : tie.Need-cast-t19
 cast-t19 c = search needs
@@ -63,7 +68,7 @@ same-length-2 : tie.Need-same-length-2
 same-length-2 c = search needs
 
 returns-3 : tie.Need-returns-3
-returns-3 c = run-carried-out _ _ _ (c .before .before .before .before .before .before .before .before .before .before .before .before .before .before .before .before .before .before .before .before .before .before .before .pre .0) (c .before .before .before .before .before .before .before .before .before .before .before .before .before .before .before .before .before .before .before .before .before .before .before .pre .1) (c .before .before .before .before .before .before .before .before .before .before .before .before .before .before .before .before .before .load-pair .ensures .1 .0) _ (c .before .before .before .before .before .before .before .mode-of .ensures) (c .before .before .before .before .before .before .before .before .before .before .before .before .before .before .before .before .before .load-pair .ensures .0) _ _ (rw (← pairs-are (c .before .before .before .before .before .before .before .before .before .before .before .before .before .before .before .before .before .load-pair .ensures .1 .0) (c .before .before .before .before .before .before .before .before .before .before .before .before .pair-count .ensures)) (c .before .before .before .before .before .before .before .before .before .before .before .if1 .left)) (rw (← pairs-are (c .before .before .before .before .before .before .before .before .before .before .before .before .before .before .before .before .before .load-pair .ensures .1 .0) (c .before .before .before .before .before .before .before .before .before .before .before .before .pair-count .ensures)) (c .before .before .before .before .before .before .before .before .before .before .if2 .left)) (c .before .before .before .before .write .ensures .1 .0) (c .before .before .before .before .write .ensures .0) (c .before .before .before .before .write .ensures .1 .1)
+returns-3 c = run-carried-out _ _ _ (c .before .before .before .before .before .before .before .before .before .before .before .before .before .before .before .before .before .before .before .before .before .before .before .pre) (c .before .before .before .before .before .before .before .before .before .before .before .before .before .before .before .before .before .load-pair .ensures .1 .0) _ (c .before .before .before .before .before .before .before .mode-of .ensures) (c .before .before .before .before .before .before .before .before .before .before .before .before .before .before .before .before .before .load-pair .ensures .0) _ _ (rw (← pairs-are (c .before .before .before .before .before .before .before .before .before .before .before .before .before .before .before .before .before .load-pair .ensures .1 .0) (c .before .before .before .before .before .before .before .before .before .before .before .before .pair-count .ensures)) (c .before .before .before .before .before .before .before .before .before .before .before .if1 .left)) (rw (← pairs-are (c .before .before .before .before .before .before .before .before .before .before .before .before .before .before .before .before .before .load-pair .ensures .1 .0) (c .before .before .before .before .before .before .before .before .before .before .before .before .pair-count .ensures)) (c .before .before .before .before .before .before .before .before .before .before .if2 .left)) (c .before .before .before .before .write .ensures .1 .0) (c .before .before .before .before .write .ensures .0) (c .before .before .before .before .write .ensures .1 .1)
 
 pub write-run-spec : {M : Type 1} → statement M
 write-run-spec =

@@ -6,9 +6,12 @@ use Prim.Native.Nat.{ℕ}
 use Rattle.tables.specs.Checks.{scan}
 use Rattle.tables.specs.Open.{rowFault}
 use Rattle.tables.specs.File.{bodyLength}
+use Rattle.tables.proofs.FileLaws.{span-within}
 use borrow.Author.Needs.{needs}
 use Rattle.tables.proofs.checks.check_body.Statement.{statement}
 use Rattle.tables.proofs.checks.check_body.Tie as tie
+use Rattle.tables.proofs.checks.check_rows.Reads as check-rows-reads
+use Rattle.tables.proofs.reads.entry_body.Reads as entry-body-reads
 
 entry-body-requires : tie.Need-entry-body-requires
 entry-body-requires c κs = search needs
@@ -24,7 +27,7 @@ unfolding bodyLength
 check-rows-requires c κs = omega (arith, c .before .before .before .before .pre)
 
 returns : tie.Need-returns
-returns c = c .check-rows .ensures ∙ ap (λ (b : List ℕ). scan (rowFault b (c .before .before .before .before .before .args .entry .states) (c .before .before .before .before .before .args .entry .offset)) (c .before .before .before .before .before .args .entry .rows)) (c .before .before .before .entry-body .ensures .bytes)
+returns c = c .check-rows .ensures ∙ ap (λ (b : List ℕ). scan (rowFault b (c .before .before .before .before .before .args .entry .states) (c .before .before .before .before .before .args .entry .offset)) (c .before .before .before .before .before .args .entry .rows)) ((rw (span-within _ _ (c .before .before .before .before .before .pre .0)) at (c .before .before .before .entry-body .ensures)) .bytes)
 
 pub check-body-spec : {M : Type 1} → statement M
 check-body-spec =

@@ -1,10 +1,10 @@
--- `tables::writes::write_row` meets its contract. The four bytes are set one after the other.
+-- `joins::rows::write_row` meets its contract. The four bytes are set one after the other.
 use native.Mathlib.Omega.{arith}
 use lib.ListN.{length-set}
 use Rattle.tables.proofs.RowLaws.{write-four}
 use borrow.Author.Needs.{needs}
-use Rattle.tables.proofs.writes.write_row.Statement.{statement}
-use Rattle.tables.proofs.writes.write_row.Tie as tie
+use Rattle.joins.proofs.rows.write_row.Statement.{statement}
+use Rattle.joins.proofs.rows.write_row.Tie as tie
 
 mul-at : tie.Need-mul-at
 mul-at c = search needs
