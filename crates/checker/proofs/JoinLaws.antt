@@ -105,7 +105,7 @@ module _ (s : List ℕ) (i j : ℕ) (a : sizeChecks s i j ≡ Passed) where
   write-answers n product entry exit rows found {w} {v} told left e = (
     by-rows (length entry) n product v (ap written (sym e) ∙ told ∙ ap (λ (z : List Row). rowsAnswer z (length entry)) found),
     left ∙ ap (λ (z : List Row). sliceAfter (rowsChecks z (length entry)) (overwrite (bodyBytes z) entry) entry) found
-    ∙ ap (λ (c : Checked). sliceAfter c (overwrite (bodyBytes (joinOf s i j .rows)) entry) entry) (sym (rows-decide (length entry))),
+        ∙ ap (λ (c : Checked). sliceAfter c (overwrite (bodyBytes (joinOf s i j .rows)) entry) entry) (sym (rows-decide (length entry))),
   )
 
 -- ---- what is written
