@@ -44,6 +44,11 @@ pub fn answer(input: &[u8]) -> Answer {
     let Some(question) = Question::read(input) else {
         return Answer { text: String::new(), number: None, decisions: Vec::new() };
     };
+    match question.operation {
+        Operation::Readers => return only(readers(&question, &input[HEAD_LENGTH..])),
+        Operation::Constants => return only(constants()),
+        _ => {}
+    }
     let mut lent = lend(&question);
     let result = call(&question, &input[HEAD_LENGTH..], &mut lent);
     let (number, place, done) = match result {
@@ -58,9 +63,37 @@ pub fn answer(input: &[u8]) -> Answer {
             push_line(&mut text, &lent.first);
             push_line(&mut text, &lent.second);
         }
-        Operation::Join | Operation::Report => push_line(&mut text, &lent.first),
+        _ => push_line(&mut text, &lent.first),
     }
     Answer { text, number: Some(number), decisions: done.decisions }
+}
+
+/// An answer that is never turned back.
+fn only(text: String) -> Answer {
+    Answer { text, number: Some(0), decisions: Vec::new() }
+}
+
+/// The fields of an entry of the contents and of a row of a body, each at its
+/// number in the file; a byte past the end counts as 0.
+fn readers(question: &Question, file: &[u8]) -> String {
+    let bytes = |start: Option<usize>, place: usize| -> u16 {
+        let found = start.and_then(|start| start.checked_add(place));
+        found.and_then(|place| file.get(place)).map_or(0, |byte| *byte as u16)
+    };
+    let index = question.first_table;
+    let entry = index.checked_mul(6).and_then(|start| start.checked_add(2));
+    let row = index.checked_mul(4);
+    let mut text = String::new();
+    let two = |start, place| bytes(start, place) + 256 * bytes(start, place + 1);
+    push_line(&mut text, &[bytes(entry, 0), bytes(entry, 1), two(entry, 2), two(entry, 4)]);
+    push_line(&mut text, &[bytes(row, 0), bytes(row, 1), two(row, 2)]);
+    text
+}
+
+/// FIN, the idle row, no response, the kinds demand and supply; the most
+/// resources, states, rows, tables and bytes.
+fn constants() -> String {
+    "0 65535 65534 1 2 16 64 512 16 32866\n".to_string()
 }
 
 /// The number, the place and three values, 0 where there are fewer.
@@ -103,7 +136,6 @@ fn lend(question: &Question) -> Lent {
     let numbers = |length: usize| (0..length).map(entry_before).collect();
     let bytes = |length: usize| (0..length).map(|i| byte_before(i) as u16).collect();
     match question.operation {
-        Operation::Open | Operation::Body => Lent { first: Vec::new(), second: Vec::new() },
         Operation::Join | Operation::Report => {
             Lent { first: bytes(question.first_length), second: Vec::new() }
         }
@@ -111,6 +143,7 @@ fn lend(question: &Question) -> Lent {
             first: numbers(question.first_length),
             second: numbers(question.second_length),
         },
+        _ => Lent { first: Vec::new(), second: Vec::new() },
     }
 }
 
@@ -123,7 +156,7 @@ fn call(question: &Question, file: &[u8], lent: &mut Lent) -> Result<Returned, R
         Operation::Decide => call_decide(question, &opened?, lent),
         Operation::Run => call_run(question, &opened?, lent),
         Operation::Join => call_join(question, &opened?, lent),
-        Operation::Report => call_report(file, lent),
+        _ => call_report(file, lent),
     }
 }
 

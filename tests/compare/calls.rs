@@ -128,7 +128,6 @@ fn random_state(random: &mut Random, table: Option<&Table>, from_start: bool) ->
 fn set_exact_lengths(question: &mut Question, first: &Table, second: &Table) {
     let count_of_pairs = first.states * second.states;
     match question.operation {
-        Operation::Open | Operation::Body | Operation::Report => {}
         Operation::Moves => {
             let tables = Tables { demand: first, supply: second };
             let pair = Pair { demand: question.demand_state, supply: question.supply_state };
@@ -146,6 +145,7 @@ fn set_exact_lengths(question: &mut Question, first: &Table, second: &Table) {
                 question.first_length = (4 * count).min(LONGEST_SLICE);
             }
         }
+        _ => {}
     }
 }
 

@@ -13,7 +13,7 @@ use crate::faults::{
     damaged_file, faulty_file, limit_file, noise, sound_file, two_faults, FAULTS, LIMITS,
     TWO_FAULTS,
 };
-use crate::question::{Operation, HEAD_LENGTH, OPERATIONS};
+use crate::question::{Operation, HEAD_LENGTH, OPERATIONS, RANDOM_OPERATIONS};
 use crate::random::Random;
 
 #[derive(Clone, Copy, PartialEq, Eq)]
@@ -165,7 +165,7 @@ fn slots_long(random: &mut Random, turn: usize) -> Made {
 fn calls_random(random: &mut Random, turn: usize) -> Made {
     let asked = [Operation::Decide, Operation::Run, Operation::Moves, Operation::Run];
     let operation = match turn % 9 {
-        8 => random.pick(&OPERATIONS),
+        8 => any_operation(random),
         place => asked[place % 4],
     };
     let file = file_of(&random_tables(random));
@@ -194,9 +194,13 @@ fn calls_odd(random: &mut Random, turn: usize) -> Made {
     for_calls(likely_question(random, &file, asked[turn % 3]).before(&file))
 }
 
+fn any_operation(random: &mut Random) -> Operation {
+    random.pick(&OPERATIONS[..RANDOM_OPERATIONS])
+}
+
 /// The operations in turn.
 fn operation_at(turn: usize) -> Operation {
-    OPERATIONS[turn % OPERATIONS.len()]
+    OPERATIONS[turn % RANDOM_OPERATIONS]
 }
 
 fn calls_any_order(random: &mut Random, turn: usize) -> Made {
@@ -205,8 +209,8 @@ fn calls_any_order(random: &mut Random, turn: usize) -> Made {
 }
 
 fn calls_faulty_file(random: &mut Random, turn: usize) -> Made {
-    let fault = turn / OPERATIONS.len() % FAULTS;
-    let alone = turn < OPERATIONS.len() * FAULTS;
+    let fault = turn / RANDOM_OPERATIONS % FAULTS;
+    let alone = turn < RANDOM_OPERATIONS * FAULTS;
     let file = faulty_file(random, fault, alone);
     for_calls(likely_question(random, &file, operation_at(turn)).before(&file))
 }
@@ -238,7 +242,7 @@ fn calls_damaged(random: &mut Random, turn: usize) -> Made {
 
 fn calls_limit(random: &mut Random, turn: usize) -> Made {
     let file = limit_file(random, turn % LIMITS);
-    let operation = random.pick(&OPERATIONS);
+    let operation = any_operation(random);
     for_calls(likely_question(random, &file, operation).before(&file))
 }
 
@@ -286,11 +290,11 @@ fn calls_report(random: &mut Random, turn: usize) -> Made {
     for_calls(report_question(random, &file, round % REPORT_LENGTHS).before(&file))
 }
 
-/// Questions shorter than a head, and operations above 6; also whole ones that
+/// Questions shorter than a head, and operations above 8; also whole ones that
 /// come in pieces.
 fn calls_nothing(random: &mut Random, turn: usize) -> Made {
     let file = sound_file(random);
-    let operation = random.pick(&OPERATIONS);
+    let operation = any_operation(random);
     let mut input = likely_question(random, &file, operation).before(&file);
     let mut pieces = 1;
     match turn % 4 {
@@ -304,5 +308,5 @@ fn calls_nothing(random: &mut Random, turn: usize) -> Made {
 }
 
 fn unknown_operation(random: &mut Random) -> u64 {
-    random.pick(&[7, 8, 255, 256, 1 << 32, u64::MAX])
+    random.pick(&[9, 10, 255, 256, 1 << 32, u64::MAX])
 }

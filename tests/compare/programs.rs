@@ -80,12 +80,11 @@ fn feed(mut entrance: ChildStdin, input: &[u8], pieces: usize) {
 }
 
 /// Many questions as one input of `calls_test`: the length of each in front of
-/// it, in two bytes.
+/// it, in eight bytes.
 pub fn questions(inputs: &[&[u8]]) -> Vec<u8> {
     let mut all = Vec::new();
     for input in inputs {
-        let length = u16::try_from(input.len()).expect("a question is shorter than 65,536 bytes");
-        all.extend(length.to_le_bytes());
+        all.extend((input.len() as u64).to_le_bytes());
         all.extend(*input);
     }
     all

@@ -12,10 +12,12 @@ pub enum Operation {
     Run,
     Join,
     Report,
+    Readers,
+    Constants,
 }
 
 /// All operations, each at its number.
-pub const OPERATIONS: [Operation; 7] = [
+pub const OPERATIONS: [Operation; 9] = [
     Operation::Open,
     Operation::Body,
     Operation::Moves,
@@ -23,7 +25,12 @@ pub const OPERATIONS: [Operation; 7] = [
     Operation::Run,
     Operation::Join,
     Operation::Report,
+    Operation::Readers,
+    Operation::Constants,
 ];
+
+/// How many of them, from the first on, random cases ask for.
+pub const RANDOM_OPERATIONS: usize = 7;
 
 #[derive(Clone, Copy)]
 pub struct Question {

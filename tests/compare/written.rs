@@ -381,6 +381,8 @@ fn blank(operation: Operation) -> Question {
 fn question_of(word: &str, words: &mut Words) -> Result<Question, String> {
     match word {
         "open" => Ok(blank(Operation::Open)),
+        "constants" => Ok(blank(Operation::Constants)),
+        "readers" => Ok(Question { first_table: words.number()?, ..blank(Operation::Readers) }),
         "body" => Ok(Question { first_table: words.number()?, ..blank(Operation::Body) }),
         "moves" => pair_question(Operation::Moves, words),
         "decide" => pair_question(Operation::Decide, words),
@@ -436,7 +438,7 @@ fn due_of(mut words: Words) -> Result<Due, String> {
             words.take_this("rows")?;
             due.values.push(words.number()?);
         }
-        "body" | "text" => {}
+        "body" | "text" | "numbers" => {}
         yes @ ("yes" | "no") => {
             due.values = vec![(yes == "yes") as usize];
             for word in ["kept", "rounds"] {
@@ -454,8 +456,8 @@ impl Due {
     /// A line with what a slice holds from its start on.
     fn add(&mut self, words: &mut Words) -> Result<(), String> {
         match &words.take()?[..] {
-            "move" | "marks" => take_numbers(words, &mut self.first),
-            "step" => take_numbers(words, &mut self.second),
+            "move" | "marks" | "entry" | "constants" => take_numbers(words, &mut self.first),
+            "step" | "row" => take_numbers(words, &mut self.second),
             "rows" => {
                 self.bytes.extend(words.rows()?.iter().flat_map(body_form));
                 Ok(())
@@ -482,6 +484,7 @@ impl Due {
         let mut text = first_line(self.number, self.place, &self.values);
         match question.operation {
             Operation::Open => {}
+            Operation::Readers | Operation::Constants => return Ok(self.numbers(question)),
             Operation::Body => push_line(&mut text, &self.bytes),
             Operation::Moves | Operation::Decide | Operation::Run => {
                 push_line(&mut text, &entries_due(&self.first, question.first_length)?);
@@ -492,6 +495,16 @@ impl Due {
             }
         }
         Ok(text)
+    }
+
+    /// What a question that is never turned back is answered with.
+    fn numbers(&self, question: &Question) -> String {
+        let mut text = String::new();
+        push_line(&mut text, &self.first);
+        if question.operation == Operation::Readers {
+            push_line(&mut text, &self.second);
+        }
+        text
     }
 
     /// A slice of bytes: those that are written, and behind them what it held.

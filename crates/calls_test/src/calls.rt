@@ -6,17 +6,17 @@ use checker::Counted;
 use checker::Decided;
 use checker::Joined;
 use checker::Verdict;
+use rules::Limits;
+use rules::Row;
+use tables::Entry;
 use tables::Opened;
 
-fn tell_opened(found: Opened) {
+pub(crate) fn open(asked: &[u8]) {
+    let found = tables::open(input::file(asked));
     match found {
         Opened::Tables(k) => output::returned(k, 0, 0),
         Opened::Refused(refusal) => output::refused(refusal),
     }
-}
-
-pub(crate) fn open(asked: &[u8]) {
-    tell_opened(tables::open(input::file(asked)));
 }
 
 pub(crate) fn body(asked: &[u8]) {
@@ -30,10 +30,6 @@ fn tell_count(found: Counted) {
         Counted::Count(count) => output::returned(count, 0, 0),
         Counted::Refused(refusal) => output::refused(refusal),
     }
-}
-
-fn moves(asked: &[u8], entries: &mut [u16]) {
-    tell_count(checker::moves(input::file(asked), input::question(asked), entries));
 }
 
 fn tell_verdict(found: Verdict) {
@@ -51,31 +47,15 @@ fn tell_decision(found: Decided) {
     }
 }
 
-fn decide(asked: &[u8], marks: &mut [u16]) {
-    tell_decision(checker::decide(
-        input::file(asked),
-        input::question(asked),
-        input::number(asked, 1),
-        marks,
-    ));
-}
-
-fn run(asked: &[u8], marks: &mut [u16], steps: &mut [u16]) {
-    tell_count(checker::run(
-        input::file(asked),
-        input::question(asked),
-        input::number(asked, 1),
-        marks,
-        steps,
-    ));
-}
-
 fn call_on_entries(asked: &[u8], first: &mut [u16], second: &mut [u16]) {
+    let file = input::file(asked);
+    let question = input::question(asked);
+    let mode = input::number(asked, 1);
     let operation = input::operation(asked);
     match operation {
-        2 => moves(asked, first),
-        3 => decide(asked, first),
-        _ => run(asked, first, second),
+        2 => tell_count(checker::moves(file, question, first)),
+        3 => tell_decision(checker::decide(file, question, mode, first)),
+        _ => tell_count(checker::run(file, question, mode, first, second)),
     }
 }
 
@@ -95,24 +75,14 @@ fn tell_join(found: Joined) {
     }
 }
 
-fn join(asked: &[u8], bytes: &mut [u8]) {
-    tell_join(checker::join(
-        input::file(asked),
-        input::number(asked, 2),
-        input::number(asked, 4),
-        bytes,
-    ));
-}
-
-fn report_text(asked: &[u8], bytes: &mut [u8]) {
-    tell_count(report::write(input::file(asked), bytes));
-}
-
 fn call_on_bytes(asked: &[u8], bytes: &mut [u8]) {
+    let file = input::file(asked);
+    let first = input::number(asked, 2);
+    let second = input::number(asked, 4);
     let operation = input::operation(asked);
     match operation {
-        5 => join(asked, bytes),
-        _ => report_text(asked, bytes),
+        5 => tell_join(checker::join(file, first, second, bytes)),
+        _ => tell_count(report::write(file, bytes)),
     }
 }
 
@@ -121,4 +91,45 @@ pub(crate) fn on_bytes(asked: &[u8], bytes: &mut [u8]) {
     lent::fill_bytes(bytes);
     call_on_bytes(asked, bytes);
     output::bytes(bytes);
+}
+
+fn read_entry(asked: &[u8], i: usize) {
+    let entry = tables::entry_at(input::file(asked), i);
+    let line = [
+        entry.kind as u16,
+        entry.states as u16,
+        entry.rows,
+        entry.offset,
+    ];
+    output::entries(&line);
+}
+
+fn read_row(asked: &[u8], i: usize) {
+    let row = tables::row_at(input::file(asked), i);
+    let line = [row.from as u16, row.target as u16, row.set];
+    output::entries(&line);
+}
+
+// What the readers of contents entries and of rows find, with the file taken as contents and as a body.
+pub(crate) fn readers(asked: &[u8]) {
+    let i = input::number(asked, 2);
+    read_entry(asked, i);
+    read_row(asked, i);
+}
+
+// The constants, in the order in which the case files name them.
+pub(crate) fn constants() {
+    let line = [
+        Row::FIN as u16,
+        Row::IDLE,
+        Row::NO_RESPONSE,
+        Entry::DEMAND as u16,
+        Entry::SUPPLY as u16,
+        Limits::RESOURCES as u16,
+        Limits::STATES as u16,
+        Limits::ROWS as u16,
+        Limits::TABLES as u16,
+        Limits::BYTES as u16,
+    ];
+    output::entries(&line);
 }

@@ -10,15 +10,15 @@ const END: usize = 65536;
 const HEAD: usize = 64;
 
 // In place of an operation, where there is no whole head.
-const NONE: usize = 7;
+const NONE: usize = 9;
 
 // The length of the next question.
 pub(crate) fn next_length() -> usize {
-    let mut length = [0u8; 2];
-    if io::read_full(0, &mut length) < 2 {
+    let mut length = [0u8; 8];
+    if io::read_full(0, &mut length) < 8 {
         return END;
     }
-    byte(&length, 0) + 256 * byte(&length, 1)
+    number(&length, 0)
 }
 
 // A byte; 0 past the end.
@@ -40,7 +40,7 @@ fn four(s: &[u8], at: usize) -> usize
     low + 65536 * byte(s, at + 2) + 16777216 * byte(s, at + 3)
 }
 
-// Number i of the head.
+// Number i of a head.
 pub(crate) fn number(asked: &[u8], i: usize) -> usize
     requires { ⌜ i < 8 ⌝ }
 {

@@ -1,21 +1,23 @@
 // Reads questions from standard input until its end, makes the call that each of them names, and writes what it answers and what the lent slices hold
 // afterwards. The case files and the comparison below `tests` ask it many questions in one run. Relies on `tables`, `checker` and `report`.
 //
-// In front of each question stand two bytes, its length: that of its head and of the file after it. A head is eight numbers of 8 bytes:
-//   0 operation: 0 Open, 1 Body, 2 Moves of a pair, 3 Decide, 4 Run, 5 Join, 6 `report::write`    1 mode
-//   2 first table (the demand)    3 its state    4 second table (the supply)    5 its state
+// A question is its length, then a head of eight numbers, then a file; the length is that of the head and the file. Numbers have 8 bytes and are
+// little-endian. The head:
+//   0 operation: 0 Open, 1 Body, 2 Moves of a pair, 3 Decide, 4 Run, 5 Join, 6 `report::write`, 7 the readers, 8 the constants    1 mode
+//   2 first table (the demand; for the readers the number of entry and row)    3 its state    4 second table (the supply)    5 its state
 //   6 entries of the first lent slice (of Join and of `report::write`: bytes)    7 entries of the second
-// Numbers are little-endian. The first line of an answer is the number and the place, 0 and 0 where the call is carried out, and three values that it
-// returns, 0 where there are fewer. The lines after it are the slices, every entry of them: two for Moves of a pair, Decide and Run, of which only Run is
-// lent the second; one of bytes for Join and `report::write`; for Body the bytes of the part that it returns. What slices hold before the call:
-// `lent::fill` and `lent::fill_bytes`. A line with a single point ends each answer, and is all of it for a question shorter than a head, for another
-// operation, and where a slice is to have more than `lent::ROOM` entries. Input that ends within a question ends the program, with no answer to that.
+// The first line of an answer is the number and the place, 0 and 0 where the call is carried out, and three values that it returns, 0 where there are
+// fewer. The lines after it are the slices, every entry of them: two for Moves of a pair, Decide and Run, of which only Run is lent the second; one of
+// bytes for Join and `report::write`; for Body the bytes of the part that it returns. What slices hold before the call: `lent::fill` and
+// `lent::fill_bytes`. The readers and the constants answer with their numbers alone. A line with a single point ends each answer, and is all of it for a
+// question shorter than a head, for another operation, and where a slice is to have more than `lent::ROOM` entries. A question that is longer than
+// `LONGEST`, or that the input ends in, ends the program.
 mod calls;
 mod input;
 mod lent;
 mod output;
 
-// The longest question that two bytes can announce.
+// The longest question.
 const LONGEST: usize = 65535;
 
 // More questions than are ever asked.
@@ -28,6 +30,8 @@ fn answer(asked: &[u8]) {
         1 => calls::body(asked),
         2..=4 => lent::lend_entries(asked),
         5..=6 => lent::lend_bytes(asked),
+        7 => calls::readers(asked),
+        8 => calls::constants(),
         _ => {}
     }
 }
