@@ -7,10 +7,12 @@
 //! same count always gives the same cases. `tests/run` builds and calls it.
 
 mod answers;
+mod asked;
 mod batches;
 mod calls;
 mod cases;
 mod drafts;
+mod due;
 mod faults;
 mod file;
 mod programs;

@@ -1,18 +1,16 @@
 //! The case files: files of tables by name, questions about them, and the answers
 //! that are due. Their form is described in tests/README.md.
 
-use crate::answers::{body_form, byte_before, entry_before, first_line, push_line};
+use crate::answers::body_form;
+use crate::asked::{asked, Asked};
 use crate::cases::{Case, Program};
 use crate::drafts::{file_of, Draft, DEMAND, SUPPLY};
+use crate::due::{due_of, Due};
 use crate::file::open;
-use crate::question::{Operation, Question};
 use crate::rules::join;
 use crate::words::Words;
 use std::collections::HashMap;
 use std::path::Path;
-
-/// What stands in a question in place of a number that its call does not take.
-const IGNORED: usize = 99;
 
 /// A case of a case file.
 pub struct Written {
@@ -66,7 +64,21 @@ type Files = HashMap<String, Vec<u8>>;
 /// A file of tables that is being read.
 enum Content {
     Bytes(Vec<u8>),
-    Tables(Vec<Draft>),
+    /// Tables, and how often each stands there.
+    Tables(Vec<(usize, Draft)>),
+}
+
+impl Content {
+    fn bytes(self) -> Vec<u8> {
+        match self {
+            Content::Bytes(bytes) => bytes,
+            Content::Tables(tables) => {
+                let all: Vec<Draft> =
+                    tables.into_iter().flat_map(|(count, table)| vec![table; count]).collect();
+                file_of(&all)
+            }
+        }
+    }
 }
 
 /// A case that is being read.
@@ -75,25 +87,6 @@ struct Open {
     why: String,
     asked: Vec<(usize, Asked)>,
     due: Option<Due>,
-}
-
-/// A question with the file it is about.
-struct Asked {
-    program: Program,
-    input: Vec<u8>,
-    question: Option<Question>,
-}
-
-/// The answer that is due.
-#[derive(Default)]
-struct Due {
-    nothing: bool,
-    number: u16,
-    place: usize,
-    values: Vec<usize>,
-    first: Vec<u16>,
-    second: Vec<u16>,
-    bytes: Vec<u8>,
 }
 
 struct CaseFile {
@@ -186,7 +179,7 @@ impl CaseFile {
         let (_, content) = self.naming.as_mut().ok_or("no file is open")?;
         match content {
             Content::Tables(tables) => {
-                let last = tables.last_mut().ok_or("no table is open")?;
+                let (_, last) = tables.last_mut().ok_or("no table is open")?;
                 last.rows.extend(rows);
                 Ok(())
             }
@@ -216,7 +209,7 @@ impl CaseFile {
         let Content::Tables(tables) = content else {
             return Err("a file by its bytes has no tables".to_string());
         };
-        tables.extend(vec![table; count]);
+        tables.push((count, table));
         Ok(())
     }
 
@@ -298,11 +291,7 @@ impl CaseFile {
     /// Ends the file or the case that is open.
     fn close(&mut self) -> Result<(), String> {
         if let Some((name, content)) = self.naming.take() {
-            let file = match content {
-                Content::Bytes(bytes) => bytes,
-                Content::Tables(tables) => file_of(&tables),
-            };
-            self.files.insert(name, file);
+            self.files.insert(name, content.bytes());
         }
         let Some(open) = self.open.take() else {
             return Ok(());
@@ -333,201 +322,4 @@ fn table_of(words: &mut Words) -> Result<Draft, String> {
 /// A number that another order or another byte would change.
 fn digest_of(bytes: &[u8]) -> usize {
     bytes.iter().fold(0, |sum, byte| (sum * 31 + *byte as usize) % 65_521)
-}
-
-/// A question about a file.
-fn asked(file: Vec<u8>, mut words: Words) -> Result<Asked, String> {
-    let word = words.take()?;
-    if word == "slots" {
-        words.end()?;
-        return Ok(Asked { program: Program::Slots, input: file, question: None });
-    }
-    if word == "operation" || word == "head" {
-        let number = words.number()?;
-        words.end()?;
-        return Ok(no_question(file, &word, number));
-    }
-    let question = question_of(&word, &mut words)?;
-    words.end()?;
-    let input = question.before(&file);
-    Ok(Asked { program: Program::Calls, input, question: Some(question) })
-}
-
-/// An operation that is not known, or only the first bytes of a head.
-fn no_question(file: Vec<u8>, word: &str, number: usize) -> Asked {
-    let mut input = blank(Operation::Open).before(&file);
-    if word == "operation" {
-        input[..8].copy_from_slice(&(number as u64).to_le_bytes());
-    } else {
-        input.truncate(number);
-    }
-    Asked { program: Program::Calls, input, question: None }
-}
-
-/// A question of which nothing is said yet.
-fn blank(operation: Operation) -> Question {
-    Question {
-        operation,
-        mode: IGNORED,
-        first_table: IGNORED,
-        demand_state: IGNORED,
-        second_table: IGNORED,
-        supply_state: IGNORED,
-        first_length: IGNORED,
-        second_length: IGNORED,
-    }
-}
-
-fn question_of(word: &str, words: &mut Words) -> Result<Question, String> {
-    match word {
-        "open" => Ok(blank(Operation::Open)),
-        "constants" => Ok(blank(Operation::Constants)),
-        "readers" => Ok(Question { first_table: words.number()?, ..blank(Operation::Readers) }),
-        "body" => Ok(Question { first_table: words.number()?, ..blank(Operation::Body) }),
-        "moves" => pair_question(Operation::Moves, words),
-        "decide" => pair_question(Operation::Decide, words),
-        "run" => pair_question(Operation::Run, words),
-        "join" => {
-            let (first_table, second_table) = (words.number()?, words.number()?);
-            words.take_this("room")?;
-            let first_length = words.number()?;
-            Ok(Question { first_table, second_table, first_length, ..blank(Operation::Join) })
-        }
-        "report" => {
-            words.take_this("room")?;
-            Ok(Question { first_length: words.number()?, ..blank(Operation::Report) })
-        }
-        other => Err(format!("'{other}' is no question")),
-    }
-}
-
-/// `[MODE] DEMAND SUPPLY from STATE STATE room ENTRIES [ENTRIES]`, the mode but
-/// for Moves, the second number of entries for Run.
-fn pair_question(operation: Operation, words: &mut Words) -> Result<Question, String> {
-    let mut question = blank(operation);
-    if operation != Operation::Moves {
-        question.mode = match words.peek() {
-            "full" | "partial" => (words.take()? == "partial") as usize,
-            _ => words.number()?,
-        };
-    }
-    question.first_table = words.number()?;
-    question.second_table = words.number()?;
-    words.take_this("from")?;
-    question.demand_state = words.number()?;
-    question.supply_state = words.number()?;
-    words.take_this("room")?;
-    question.first_length = words.number()?;
-    question.second_length = if operation == Operation::Run { words.number()? } else { 0 };
-    Ok(question)
-}
-
-/// The first line of what is due.
-fn due_of(mut words: Words) -> Result<Due, String> {
-    let mut due = Due::default();
-    match &words.take()?[..] {
-        "nothing" => due.nothing = true,
-        "refused" => {
-            due.number = words.short()?;
-            words.take_this("at")?;
-            due.place = words.number()?;
-        }
-        "tables" | "moves" | "steps" | "bytes" => due.values = vec![words.number()?],
-        "states" => {
-            due.values = vec![words.number()?];
-            words.take_this("rows")?;
-            due.values.push(words.number()?);
-        }
-        "body" | "text" | "numbers" => {}
-        yes @ ("yes" | "no") => {
-            due.values = vec![(yes == "yes") as usize];
-            for word in ["kept", "rounds"] {
-                words.take_this(word)?;
-                due.values.push(words.number()?);
-            }
-        }
-        other => return Err(format!("'{other}' is no answer")),
-    }
-    words.end()?;
-    Ok(due)
-}
-
-impl Due {
-    /// A line with what a slice holds from its start on.
-    fn add(&mut self, words: &mut Words) -> Result<(), String> {
-        match &words.take()?[..] {
-            "move" | "marks" | "entry" | "constants" => take_numbers(words, &mut self.first),
-            "step" | "row" => take_numbers(words, &mut self.second),
-            "rows" => {
-                self.bytes.extend(words.rows()?.iter().flat_map(body_form));
-                Ok(())
-            }
-            other => Err(format!("'{other}' is no part of an answer")),
-        }
-    }
-
-    /// A line of text.
-    fn add_text(&mut self, line: &str) -> Result<(), String> {
-        self.bytes.extend(line.bytes());
-        self.bytes.push(b'\n');
-        Ok(())
-    }
-
-    /// All that the program has to write.
-    fn text(&self, asked: &Asked) -> Result<String, String> {
-        if self.nothing {
-            return Ok(String::new());
-        }
-        let Some(question) = &asked.question else {
-            return String::from_utf8(self.bytes.clone()).map_err(|error| error.to_string());
-        };
-        let mut text = first_line(self.number, self.place, &self.values);
-        match question.operation {
-            Operation::Open => {}
-            Operation::Readers | Operation::Constants => return Ok(self.numbers(question)),
-            Operation::Body => push_line(&mut text, &self.bytes),
-            Operation::Moves | Operation::Decide | Operation::Run => {
-                push_line(&mut text, &entries_due(&self.first, question.first_length)?);
-                push_line(&mut text, &entries_due(&self.second, question.second_length)?);
-            }
-            Operation::Join | Operation::Report => {
-                push_line(&mut text, &self.bytes_due(question.first_length)?);
-            }
-        }
-        Ok(text)
-    }
-
-    /// What a question that is never turned back is answered with.
-    fn numbers(&self, question: &Question) -> String {
-        let mut text = String::new();
-        push_line(&mut text, &self.first);
-        if question.operation == Operation::Readers {
-            push_line(&mut text, &self.second);
-        }
-        text
-    }
-
-    /// A slice of bytes: those that are written, and behind them what it held.
-    fn bytes_due(&self, length: usize) -> Result<Vec<u8>, String> {
-        if self.bytes.len() > length {
-            return Err("the slice is shorter than what is due in it".to_string());
-        }
-        let rest = (self.bytes.len()..length).map(byte_before);
-        Ok(self.bytes.iter().copied().chain(rest).collect())
-    }
-}
-
-fn take_numbers(words: &mut Words, numbers: &mut Vec<u16>) -> Result<(), String> {
-    while !words.at_end() {
-        numbers.push(words.short()?);
-    }
-    Ok(())
-}
-
-/// A slice of 16-bit numbers: those that are written, and behind them what it held.
-fn entries_due(written: &[u16], length: usize) -> Result<Vec<u16>, String> {
-    if written.len() > length {
-        return Err("the slice is shorter than what is due in it".to_string());
-    }
-    Ok(written.iter().copied().chain((written.len()..length).map(entry_before)).collect())
 }
