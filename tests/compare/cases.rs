@@ -147,7 +147,7 @@ fn slots_long(random: &mut Random, turn: usize) -> Made {
     let (mut input, pieces) = match turn % 12 {
         0..=4 => (file_of(&largest_tables(random)), random.pick(&[1, 3, 9])),
         5 => (Vec::new(), 1),
-        6 => (file_of(&odd_tables(random)), 38),
+        6 => byte_by_byte(file_of(&odd_tables(random))),
         7 => (sound_file(random), 5),
         8 => (damaged_file(random), 3),
         _ => (sound_file(random), 2),
@@ -160,6 +160,12 @@ fn slots_long(random: &mut Random, turn: usize) -> Made {
     let missing = length.saturating_sub(input.len());
     input.extend(random.bytes(missing));
     Made { program: Program::Slots, input, pieces }
+}
+
+/// A file and as many pieces as it has bytes.
+fn byte_by_byte(file: Vec<u8>) -> (Vec<u8>, usize) {
+    let pieces = file.len();
+    (file, pieces)
 }
 
 fn calls_random(random: &mut Random, turn: usize) -> Made {
