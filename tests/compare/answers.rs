@@ -2,7 +2,7 @@
 //! place, the values returned, and the final contents of what was lent.
 
 use crate::file::{open, refuse, Kind, Refusal, Row, Table, MOST_ROWS, MOST_STATES};
-use crate::question::{Operation, Question, QUESTION_LENGTH};
+use crate::question::{Operation, Question, HEAD_LENGTH};
 use crate::report::report;
 use crate::rules::{combined_moves, count_kept, join, marks, rounds, run, Mode, Pair, Tables};
 
@@ -39,49 +39,111 @@ fn returned(values: Vec<usize>) -> Returned {
     Returned { values, part: Vec::new(), decisions: Vec::new() }
 }
 
-/// What `calls_test` answers to an input.
+/// What `calls_test` answers to a question.
 pub fn answer(input: &[u8]) -> Answer {
     let Some(question) = Question::read(input) else {
         return Answer { text: String::new(), number: None, decisions: Vec::new() };
     };
+    match question.operation {
+        Operation::Readers => return only(readers(&question, &input[HEAD_LENGTH..])),
+        Operation::Constants => return only(constants()),
+        _ => {}
+    }
     let mut lent = lend(&question);
-    let result = call(&question, &input[QUESTION_LENGTH..], &mut lent);
-    let (number, first_line, part, decisions) = match result {
-        Ok(done) => (0, [vec![0, 0], done.values].concat(), done.part, done.decisions),
-        Err(refusal) => {
-            let first_line = vec![refusal.number as usize, refusal.place];
-            (refusal.number, first_line, Vec::new(), Vec::new())
-        }
+    let result = call(&question, &input[HEAD_LENGTH..], &mut lent);
+    let (number, place, done) = match result {
+        Ok(done) => (0, 0, done),
+        Err(refusal) => (refusal.number, refusal.place, returned(Vec::new())),
     };
-    let mut text = line(&first_line);
+    let mut text = first_line(number, place, &done.values);
     match question.operation {
         Operation::Open => {}
-        Operation::Body => text += &line(&part),
-        Operation::Run => text += &(line(&lent.first) + &line(&lent.second)),
-        Operation::Moves | Operation::Decide | Operation::Join | Operation::Report => {
-            text += &line(&lent.first);
+        Operation::Body => push_line(&mut text, &done.part),
+        Operation::Moves | Operation::Decide | Operation::Run => {
+            push_line(&mut text, &lent.first);
+            push_line(&mut text, &lent.second);
         }
+        _ => push_line(&mut text, &lent.first),
     }
-    Answer { text, number: Some(number), decisions }
+    Answer { text, number: Some(number), decisions: done.decisions }
 }
 
-/// Numbers separated by one space, with a line feed.
-fn line<N: ToString>(numbers: &[N]) -> String {
-    let words: Vec<String> = numbers.iter().map(|number| number.to_string()).collect();
-    words.join(" ") + "\n"
+/// An answer that is never turned back.
+fn only(text: String) -> Answer {
+    Answer { text, number: Some(0), decisions: Vec::new() }
+}
+
+/// The fields of an entry of the contents and of a row of a body, each at its
+/// number in the file; a byte past the end counts as 0.
+fn readers(question: &Question, file: &[u8]) -> String {
+    let bytes = |start: Option<usize>, place: usize| -> u16 {
+        let found = start.and_then(|start| start.checked_add(place));
+        found.and_then(|place| file.get(place)).map_or(0, |byte| *byte as u16)
+    };
+    let index = question.first_table;
+    let entry = index.checked_mul(6).and_then(|start| start.checked_add(2));
+    let row = index.checked_mul(4);
+    let mut text = String::new();
+    let two = |start, place| bytes(start, place) + 256 * bytes(start, place + 1);
+    push_line(&mut text, &[bytes(entry, 0), bytes(entry, 1), two(entry, 2), two(entry, 4)]);
+    push_line(&mut text, &[bytes(row, 0), bytes(row, 1), two(row, 2)]);
+    text
+}
+
+/// FIN, the idle row, no response, the kinds demand and supply; the most
+/// resources, states, rows, tables and bytes.
+fn constants() -> String {
+    "0 65535 65534 1 2 16 64 512 16 32866\n".to_string()
+}
+
+/// The number, the place and three values, 0 where there are fewer.
+pub fn first_line(number: u16, place: usize, values: &[usize]) -> String {
+    let value = |index: usize| values.get(index).copied().unwrap_or(0);
+    format!("{number} {place} {} {} {}\n", value(0), value(1), value(2))
+}
+
+/// Adds a line of numbers separated by one space.
+pub fn push_line<N: Copy + Into<u16>>(text: &mut String, numbers: &[N]) {
+    for (index, number) in numbers.iter().enumerate() {
+        if index > 0 {
+            text.push(' ');
+        }
+        push_number(text, (*number).into());
+    }
+    text.push('\n');
+}
+
+fn push_number(text: &mut String, number: u16) {
+    if number >= 10 {
+        push_number(text, number / 10);
+    }
+    text.push((b'0' + (number % 10) as u8) as char);
+}
+
+/// What entry i of a lent slice of 16-bit numbers holds before the call.
+pub fn entry_before(i: usize) -> u16 {
+    (50_000 + i % 499) as u16
+}
+
+/// What byte i of a lent slice of bytes holds before the call.
+pub fn byte_before(i: usize) -> u8 {
+    (i % 251) as u8
 }
 
 /// The lent slices as they stand before the call. The bytes lent to Join and
 /// Report are held as numbers here.
 fn lend(question: &Question) -> Lent {
-    let numbers = |length: usize| (0..length).map(|i| (50_000 + i % 499) as u16).collect();
-    let bytes = |length: usize| (0..length).map(|i| (i % 251) as u16).collect();
-    Lent {
-        first: match question.operation {
-            Operation::Join | Operation::Report => bytes(question.first_length),
-            _ => numbers(question.first_length),
+    let numbers = |length: usize| (0..length).map(entry_before).collect();
+    let bytes = |length: usize| (0..length).map(|i| byte_before(i) as u16).collect();
+    match question.operation {
+        Operation::Join | Operation::Report => {
+            Lent { first: bytes(question.first_length), second: Vec::new() }
+        }
+        Operation::Moves | Operation::Decide | Operation::Run => Lent {
+            first: numbers(question.first_length),
+            second: numbers(question.second_length),
         },
-        second: numbers(question.second_length),
+        _ => Lent { first: Vec::new(), second: Vec::new() },
     }
 }
 
@@ -94,7 +156,7 @@ fn call(question: &Question, file: &[u8], lent: &mut Lent) -> Result<Returned, R
         Operation::Decide => call_decide(question, &opened?, lent),
         Operation::Run => call_run(question, &opened?, lent),
         Operation::Join => call_join(question, &opened?, lent),
-        Operation::Report => call_report(file, lent),
+        _ => call_report(file, lent),
     }
 }
 

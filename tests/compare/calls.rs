@@ -57,9 +57,11 @@ pub fn operations_and_faults() -> Vec<(Operation, Fault)> {
 pub fn likely_question(random: &mut Random, file: &[u8], operation: Operation) -> Question {
     let mut question = exact_question(random, file, operation);
     question.first_length = length_near(random, question.first_length);
-    question.second_length = length_near(random, question.second_length);
+    if operation == Operation::Run {
+        question.second_length = length_near(random, question.second_length);
+    }
     if random.chance(1, 32) {
-        question.mode = random.pick(&[2, 255]);
+        question.mode = random.pick(&[2, 255, 256, usize::MAX]);
     }
     question
 }
@@ -80,13 +82,13 @@ fn exact_question(random: &mut Random, file: &[u8], operation: Operation) -> Que
     let supply_state = random_state(random, tables.get(second_table), from_start);
     let mut question = Question {
         operation,
-        mode: random.below(2) as u8,
+        mode: random.below(2),
         first_table,
         demand_state,
         second_table,
         supply_state,
         first_length: random.below(40),
-        second_length: random.below(40),
+        second_length: 0,
     };
     if let (Some(first), Some(second)) = (tables.get(first_table), tables.get(second_table)) {
         set_exact_lengths(&mut question, first, second);
@@ -126,7 +128,6 @@ fn random_state(random: &mut Random, table: Option<&Table>, from_start: bool) ->
 fn set_exact_lengths(question: &mut Question, first: &Table, second: &Table) {
     let count_of_pairs = first.states * second.states;
     match question.operation {
-        Operation::Open | Operation::Body | Operation::Report => {}
         Operation::Moves => {
             let tables = Tables { demand: first, supply: second };
             let pair = Pair { demand: question.demand_state, supply: question.supply_state };
@@ -144,6 +145,7 @@ fn set_exact_lengths(question: &mut Question, first: &Table, second: &Table) {
                 question.first_length = (4 * count).min(LONGEST_SLICE);
             }
         }
+        _ => {}
     }
 }
 
@@ -201,7 +203,7 @@ fn add_fault(random: &mut Random, question: &mut Question, tables: &[Table], fau
             let states = tables.get(question.second_table).map_or(4, |table| table.states);
             question.supply_state = beyond(random, states);
         }
-        Fault::Mode => question.mode = random.pick(&[2, 3, 128, 255]),
+        Fault::Mode => question.mode = random.pick(&[2, 3, 128, 255, 256, usize::MAX - 1, usize::MAX]),
         Fault::FirstLength => question.first_length = under(random, question.first_length),
         Fault::SecondLength => question.second_length = under(random, question.second_length),
     }
@@ -210,7 +212,8 @@ fn add_fault(random: &mut Random, question: &mut Question, tables: &[Table], fau
 /// A number not below the limit: the limit itself, or one more, or far above.
 fn beyond(random: &mut Random, limit: usize) -> usize {
     let inside = random.below(limit.max(1));
-    random.pick(&[limit, limit, limit + 1, limit.max(64), 256 + inside, 65_535])
+    let far = random.pick(&[65_535, 65_536 + inside, (1 << 32) + inside, usize::MAX]);
+    random.pick(&[limit, limit, limit + 1, limit.max(64), 256 + inside, far])
 }
 
 /// A length under the exact one: one less, or none, or any.
@@ -314,7 +317,7 @@ pub fn wide_moves(random: &mut Random, which: usize) -> (Vec<u8>, Question) {
     };
     let question = Question {
         operation: Operation::Moves,
-        mode: random.below(3) as u8,
+        mode: random.below(3),
         first_table: 1,
         demand_state: 1,
         second_table: 0,
@@ -358,7 +361,7 @@ pub fn report_question(random: &mut Random, file: &[u8], which: usize) -> Questi
     let mut any = || random.below(65_536);
     Question {
         operation: Operation::Report,
-        mode: any() as u8,
+        mode: any(),
         first_table: any(),
         demand_state: any(),
         second_table: any(),

@@ -1,5 +1,5 @@
-//! All cases, made from fixed seeds: first the examples by hand, then the kinds
-//! of case in a fixed rotation.
+//! The random cases, made from fixed seeds: the kinds of case in a fixed
+//! rotation.
 
 use crate::calls::{
     faulty_question, join_at_limit, likely_question, operations_and_faults, report_question,
@@ -9,12 +9,11 @@ use crate::drafts::{
     branching, cycles_or_chain, file_of, largest_tables, odd_tables, random_tables,
     tables_in_any_order, tables_of_one_kind,
 };
-use crate::examples::{Example, E};
 use crate::faults::{
     damaged_file, faulty_file, limit_file, noise, sound_file, two_faults, FAULTS, LIMITS,
     TWO_FAULTS,
 };
-use crate::question::{Operation, OPERATIONS, QUESTION_LENGTH};
+use crate::question::{Operation, HEAD_LENGTH, OPERATIONS, RANDOM_OPERATIONS};
 use crate::random::Random;
 
 #[derive(Clone, Copy, PartialEq, Eq)]
@@ -29,8 +28,6 @@ pub struct Case {
     pub input: Vec<u8>,
     /// In how many pieces the input is written.
     pub pieces: usize,
-    /// The output that the paper prints or that was worked out by hand.
-    pub by_hand: Option<String>,
 }
 
 /// A kind of case: its name, how often it stands in the rotation, and how to
@@ -89,35 +86,19 @@ const ROTATION: [Kind; 26] = [
 ];
 
 /// The case with this number. The same number always gives the same case.
-pub fn case(number: usize, examples: &[Example]) -> Case {
-    if let Some(example) = examples.get(number) {
-        return Case {
-            kind: example.name,
-            program: example.program,
-            input: example.input.clone(),
-            pieces: 1,
-            by_hand: Some(example.output.clone()),
-        };
-    }
-    let later = number - examples.len();
+pub fn case(number: usize) -> Case {
     let length: usize = ROTATION.iter().map(|kind| kind.often).sum();
-    let mut place = later % length;
+    let mut place = number % length;
     let mut which = 0;
     while place >= ROTATION[which].often {
         place -= ROTATION[which].often;
         which += 1;
     }
     let kind = &ROTATION[which];
-    let turn = later / length * kind.often + place;
+    let turn = number / length * kind.often + place;
     let mut random = Random::new(number as u64);
     let made = (kind.make)(&mut random, turn);
-    Case {
-        kind: kind.name,
-        program: made.program,
-        input: made.input,
-        pieces: made.pieces,
-        by_hand: None,
-    }
+    Case { kind: kind.name, program: made.program, input: made.input, pieces: made.pieces }
 }
 
 fn slots_random(random: &mut Random, _: usize) -> Made {
@@ -166,7 +147,7 @@ fn slots_long(random: &mut Random, turn: usize) -> Made {
     let (mut input, pieces) = match turn % 12 {
         0..=4 => (file_of(&largest_tables(random)), random.pick(&[1, 3, 9])),
         5 => (Vec::new(), 1),
-        6 => (E.to_vec(), E.len()),
+        6 => byte_by_byte(file_of(&odd_tables(random))),
         7 => (sound_file(random), 5),
         8 => (damaged_file(random), 3),
         _ => (sound_file(random), 2),
@@ -181,10 +162,16 @@ fn slots_long(random: &mut Random, turn: usize) -> Made {
     Made { program: Program::Slots, input, pieces }
 }
 
+/// A file and as many pieces as it has bytes.
+fn byte_by_byte(file: Vec<u8>) -> (Vec<u8>, usize) {
+    let pieces = file.len();
+    (file, pieces)
+}
+
 fn calls_random(random: &mut Random, turn: usize) -> Made {
     let asked = [Operation::Decide, Operation::Run, Operation::Moves, Operation::Run];
     let operation = match turn % 9 {
-        8 => random.pick(&OPERATIONS),
+        8 => any_operation(random),
         place => asked[place % 4],
     };
     let file = file_of(&random_tables(random));
@@ -213,9 +200,13 @@ fn calls_odd(random: &mut Random, turn: usize) -> Made {
     for_calls(likely_question(random, &file, asked[turn % 3]).before(&file))
 }
 
+fn any_operation(random: &mut Random) -> Operation {
+    random.pick(&OPERATIONS[..RANDOM_OPERATIONS])
+}
+
 /// The operations in turn.
 fn operation_at(turn: usize) -> Operation {
-    OPERATIONS[turn % OPERATIONS.len()]
+    OPERATIONS[turn % RANDOM_OPERATIONS]
 }
 
 fn calls_any_order(random: &mut Random, turn: usize) -> Made {
@@ -224,8 +215,8 @@ fn calls_any_order(random: &mut Random, turn: usize) -> Made {
 }
 
 fn calls_faulty_file(random: &mut Random, turn: usize) -> Made {
-    let fault = turn / OPERATIONS.len() % FAULTS;
-    let alone = turn < OPERATIONS.len() * FAULTS;
+    let fault = turn / RANDOM_OPERATIONS % FAULTS;
+    let alone = turn < RANDOM_OPERATIONS * FAULTS;
     let file = faulty_file(random, fault, alone);
     for_calls(likely_question(random, &file, operation_at(turn)).before(&file))
 }
@@ -257,7 +248,7 @@ fn calls_damaged(random: &mut Random, turn: usize) -> Made {
 
 fn calls_limit(random: &mut Random, turn: usize) -> Made {
     let file = limit_file(random, turn % LIMITS);
-    let operation = random.pick(&OPERATIONS);
+    let operation = any_operation(random);
     for_calls(likely_question(random, &file, operation).before(&file))
 }
 
@@ -305,17 +296,23 @@ fn calls_report(random: &mut Random, turn: usize) -> Made {
     for_calls(report_question(random, &file, round % REPORT_LENGTHS).before(&file))
 }
 
-/// Questions cut short, and operations above 6; also whole ones in pieces.
+/// Questions shorter than a head, and operations above 8; also whole ones that
+/// come in pieces.
 fn calls_nothing(random: &mut Random, turn: usize) -> Made {
     let file = sound_file(random);
-    let operation = random.pick(&OPERATIONS);
+    let operation = any_operation(random);
     let mut input = likely_question(random, &file, operation).before(&file);
     let mut pieces = 1;
     match turn % 4 {
-        0 => input.truncate(random.below(QUESTION_LENGTH)),
-        1 => input[0] = random.pick(&[7, 8, 255]),
-        2 => input.truncate(random.between(QUESTION_LENGTH, QUESTION_LENGTH + 1)),
-        _ => pieces = random.between(2, 9),
+        0 => input.truncate(random.below(HEAD_LENGTH)),
+        1 => input[..8].copy_from_slice(&unknown_operation(random).to_le_bytes()),
+        2 => input.truncate(random.between(HEAD_LENGTH, HEAD_LENGTH + 1)),
+        _ if turn % 64 == 3 => pieces = random.between(2, 9),
+        _ => {}
     }
     Made { program: Program::Calls, input, pieces }
+}
+
+fn unknown_operation(random: &mut Random) -> u64 {
+    random.pick(&[9, 10, 255, 256, 1 << 32, u64::MAX])
 }

@@ -1,16 +1,18 @@
-//! Compares the programs `slots` and `calls_test` with a separately written
-//! checker, which is a direct reading of the paper.
+//! Holds the programs `slots` and `calls_test` to the answers that the case files
+//! say are due, and compares them with a separately written checker, which is a
+//! direct reading of the paper, on those cases and on random ones.
 //!
-//! Called as `compare SLOTS CALLS_TEST [COUNT]`: the paths of the two programs
-//! and how many cases to run, 4,000 if not given; the examples by hand all run,
-//! however few are asked for. The same count always gives the same cases. Built by
-//! `rustc --edition 2021 -O tests/compare/main.rs -o OUT`.
+//! Called as `compare SLOTS CALLS_TEST CASES COUNT`: the paths of the two
+//! programs, the folder of the case files, and how many random cases to run. The
+//! same count always gives the same cases. `tests/run` builds and calls it.
 
 mod answers;
+mod asked;
+mod batches;
 mod calls;
 mod cases;
 mod drafts;
-mod examples;
+mod due;
 mod faults;
 mod file;
 mod programs;
@@ -19,44 +21,55 @@ mod random;
 mod report;
 mod rules;
 mod tally;
+mod words;
+mod written;
 
-use cases::{case, Case, Program};
-use examples::Example;
+use batches::{Batch, Programs};
+use cases::Case;
 use std::path::{Path, PathBuf};
 use std::process::ExitCode;
 use std::sync::atomic::{AtomicUsize, Ordering};
 use std::thread;
 use tally::Tally;
+use written::Written;
 
-const USUAL_COUNT: usize = 4_000;
-/// From so many cases on, nothing that `Tally::missing` looks for may be missing.
+/// From so many random cases on, nothing that `Tally::missing` looks for may be
+/// missing.
 const COVERING_COUNT: usize = 1_000;
+/// How many cases a worker takes at a time.
+const BATCH: usize = 390;
 const WORKERS: usize = 2;
 const SHOWN_DIFFERENCES: usize = 10;
-const SHOWN_CHARACTERS: usize = 200;
 
 struct Arguments {
-    slots: String,
-    calls: String,
+    programs: Programs,
+    folder: PathBuf,
     count: usize,
 }
 
-/// A case that failed, and why.
-struct Difference {
+/// A case that failed: its name, why it failed, and its input.
+pub struct Difference {
     number: usize,
+    name: String,
     reason: String,
+    case: Case,
 }
 
 fn main() -> ExitCode {
-    let Some(mut arguments) = read_arguments() else {
-        eprintln!("called as: compare SLOTS CALLS_TEST [COUNT]");
+    let Some(arguments) = read_arguments() else {
+        eprintln!("called as: compare SLOTS CALLS_TEST CASES COUNT");
         return ExitCode::from(2);
     };
-    let examples = examples::examples();
-    arguments.count = arguments.count.max(examples.len());
-    let (tally, differences) = run_all(&arguments, &examples);
+    let written = match written::read_folder(&arguments.folder) {
+        Ok(written) => written,
+        Err(error) => {
+            println!("{error}\n0 passed, 1 failed");
+            return ExitCode::from(1);
+        }
+    };
+    let (tally, differences) = run_all(&arguments, &written);
     tally.print();
-    show(&differences, &examples);
+    show(&differences);
     let mut failed = differences.len();
     if arguments.count >= COVERING_COUNT {
         for sentence in tally.missing() {
@@ -64,7 +77,8 @@ fn main() -> ExitCode {
             failed += 1;
         }
     }
-    println!("{} passed, {failed} failed", arguments.count - differences.len());
+    println!("{} cases written by hand, {} made at random", written.len(), arguments.count);
+    println!("{} passed, {failed} failed", written.len() + arguments.count - differences.len());
     if failed > 0 {
         ExitCode::from(1)
     } else {
@@ -74,24 +88,25 @@ fn main() -> ExitCode {
 
 fn read_arguments() -> Option<Arguments> {
     let words: Vec<String> = std::env::args().skip(1).collect();
-    if words.len() < 2 || words.len() > 3 {
+    let [slots, calls, folder, count] = &words[..] else {
         return None;
-    }
-    let count = match words.get(2) {
-        Some(word) => word.parse().ok()?,
-        None => USUAL_COUNT,
     };
-    Some(Arguments { slots: words[0].clone(), calls: words[1].clone(), count })
+    Some(Arguments {
+        programs: Programs { slots: slots.clone(), calls: calls.clone() },
+        folder: PathBuf::from(folder),
+        count: count.parse().ok()?,
+    })
 }
 
-/// Runs all cases in two workers; the differences come in the cases' order.
-fn run_all(arguments: &Arguments, examples: &[Example]) -> (Tally, Vec<Difference>) {
+/// Runs all cases in two workers, those of the case files first; the differences
+/// come in the cases' order.
+fn run_all(arguments: &Arguments, written: &[Written]) -> (Tally, Vec<Difference>) {
     let next = AtomicUsize::new(0);
     let mut tally = Tally::new();
     let mut differences = Vec::new();
     thread::scope(|scope| {
         let workers: Vec<_> =
-            (0..WORKERS).map(|_| scope.spawn(|| work(arguments, examples, &next))).collect();
+            (0..WORKERS).map(|_| scope.spawn(|| work(arguments, written, &next))).collect();
         for worker in workers {
             let (part, found) = worker.join().expect("a worker ends");
             tally.add(&part);
@@ -102,91 +117,68 @@ fn run_all(arguments: &Arguments, examples: &[Example]) -> (Tally, Vec<Differenc
     (tally, differences)
 }
 
-/// Takes one case after the other until all are taken.
+/// Takes one batch of cases after the other until all are taken.
 fn work(
     arguments: &Arguments,
-    examples: &[Example],
+    written: &[Written],
     next: &AtomicUsize,
 ) -> (Tally, Vec<Difference>) {
     let mut tally = Tally::new();
     let mut differences = Vec::new();
+    let all = written.len() + arguments.count;
     loop {
-        let number = next.fetch_add(1, Ordering::Relaxed);
-        if number >= arguments.count {
+        let first = next.fetch_add(BATCH, Ordering::Relaxed);
+        if first >= all {
             return (tally, differences);
         }
-        let case = case(number, examples);
-        if let Err(reason) = run_case(arguments, &case, &mut tally) {
-            differences.push(Difference { number, reason });
+        let numbers = first..(first + BATCH).min(all);
+        let batch: Vec<(usize, Case)> =
+            numbers.map(|number| (number, case_at(written, number))).collect();
+        let outcomes = Batch::new(&arguments.programs, &batch).run(written, &mut tally);
+        for ((number, case), outcome) in batch.into_iter().zip(outcomes) {
+            if let Err(reason) = outcome {
+                let name = name_of(written, number, &case);
+                differences.push(Difference { number, name, reason, case });
+            }
         }
     }
 }
 
-fn run_case(arguments: &Arguments, case: &Case, tally: &mut Tally) -> Result<(), String> {
-    let (path, expected) = match case.program {
-        Program::Slots => (&arguments.slots, report::report(&case.input)),
-        Program::Calls => (&arguments.calls, answers::answer(&case.input)),
-    };
-    tally.count(case.program, &case.input, &expected);
-    if let Some(by_hand) = &case.by_hand {
-        compare(by_hand.as_bytes(), expected.text.as_bytes())
-            .map_err(|reason| format!("the checker here differs from the paper: {reason}"))?;
+/// The case with this number: of the case files, or a random one.
+fn case_at(written: &[Written], number: usize) -> Case {
+    match written.get(number) {
+        Some(found) => found.case(),
+        None => cases::case(number - written.len()),
     }
-    let came = programs::output_of(path, &case.input, case.pieces)?;
-    compare(expected.text.as_bytes(), &came)
 }
 
-/// Compares two outputs; where they differ, says so of the first such line.
-fn compare(expected: &[u8], came: &[u8]) -> Result<(), String> {
-    if expected == came {
-        return Ok(());
+fn name_of(written: &[Written], number: usize, case: &Case) -> String {
+    match written.get(number) {
+        Some(found) => found.name.clone(),
+        None => format!("random case {} ({})", number - written.len(), case.kind),
     }
-    let same = expected.iter().zip(came).take_while(|(one, other)| one == other).count();
-    let before = &expected[..same];
-    let line_number = 1 + before.iter().filter(|byte| **byte == b'\n').count();
-    let line_start = before.iter().rposition(|byte| *byte == b'\n').map_or(0, |place| place + 1);
-    let near = same.saturating_sub(SHOWN_CHARACTERS / 2);
-    let shown_from = line_start.max(near);
-    Err(format!(
-        "line {line_number} from character {}\n  expected: {}\n  came:     {}",
-        shown_from - line_start + 1,
-        rest_of_line(expected, shown_from),
-        rest_of_line(came, shown_from)
-    ))
-}
-
-/// A line from a place on, cut short; says where an output ends without it.
-fn rest_of_line(output: &[u8], place: usize) -> String {
-    let rest = &output[place..];
-    if rest.is_empty() {
-        return "(the output ends here)".to_string();
-    }
-    let length = rest.iter().position(|byte| *byte == b'\n');
-    let line = &rest[..length.unwrap_or(rest.len()).min(SHOWN_CHARACTERS)];
-    let mark = if length.is_none() { " (no line feed)" } else { "" };
-    format!("{}{mark}", String::from_utf8_lossy(line))
 }
 
 /// Prints the first differences and saves their inputs.
-fn show(differences: &[Difference], examples: &[Example]) {
+fn show(differences: &[Difference]) {
     let folder = std::env::temp_dir().join(format!("compare-{}", std::process::id()));
     for difference in differences.iter().take(SHOWN_DIFFERENCES) {
-        let case = case(difference.number, examples);
-        println!("case {} ({}): {}", difference.number, case.kind, difference.reason);
-        match save(&folder, difference.number, &case) {
+        println!("{}: {}", difference.name, difference.reason);
+        match save(&folder, difference) {
             Ok(path) => println!("  input:    {}", path.display()),
             Err(error) => println!("  the input could not be saved: {error}"),
         }
     }
 }
 
-fn save(folder: &Path, number: usize, case: &Case) -> std::io::Result<PathBuf> {
-    let program = match case.program {
-        Program::Slots => "slots",
-        Program::Calls => "calls_test",
+/// Saves an input as the program reads it.
+fn save(folder: &Path, difference: &Difference) -> std::io::Result<PathBuf> {
+    let (program, input) = match difference.case.program {
+        cases::Program::Slots => ("slots", difference.case.input.clone()),
+        cases::Program::Calls => ("calls_test", programs::questions(&[&difference.case.input])),
     };
     std::fs::create_dir_all(folder)?;
-    let path = folder.join(format!("{program}-{number}.input"));
-    std::fs::write(&path, &case.input)?;
+    let path = folder.join(format!("{program}-{}.input", difference.number));
+    std::fs::write(&path, input)?;
     Ok(path)
 }

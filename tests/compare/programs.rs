@@ -12,14 +12,28 @@ const LONGEST_WAIT: Duration = Duration::from_secs(60);
 /// start, so that its reads come short.
 const PAUSE: Duration = Duration::from_millis(4);
 
-/// The output of a program, or what went wrong with it.
-pub fn output_of(path: &str, input: &[u8], pieces: usize) -> Result<Vec<u8>, String> {
+/// What a program wrote, and what went wrong with it, if anything did.
+pub struct Ended {
+    pub output: Vec<u8>,
+    pub fault: Option<String>,
+}
+
+fn failed(reason: String) -> Ended {
+    Ended { output: Vec::new(), fault: Some(reason) }
+}
+
+/// Runs a program on an input that is written in so many pieces. Meanwhile
+/// `work` is done, so that neither waits for the other.
+pub fn run<T>(path: &str, input: &[u8], pieces: usize, work: impl FnOnce() -> T) -> (Ended, T) {
     let started = Command::new(path)
         .stdin(Stdio::piped())
         .stdout(Stdio::piped())
         .stderr(Stdio::null())
         .spawn();
-    let mut child = started.map_err(|error| format!("could not be started: {error}"))?;
+    let mut child = match started {
+        Ok(child) => child,
+        Err(error) => return (failed(format!("could not be started: {error}")), work()),
+    };
     let entrance = child.stdin.take().expect("standard input is a pipe");
     let mut exit = child.stdout.take().expect("standard output is a pipe");
     let (sender, receiver) = channel();
@@ -27,20 +41,27 @@ pub fn output_of(path: &str, input: &[u8], pieces: usize) -> Result<Vec<u8>, Str
         scope.spawn(move || feed(entrance, input, pieces));
         scope.spawn(move || {
             let mut output = Vec::new();
-            let result = exit.read_to_end(&mut output).map(|_| output);
-            let _ = sender.send(result);
+            let read = exit.read_to_end(&mut output);
+            let _ = sender.send((output, read.err()));
         });
+        let worked = work();
         let received = receiver.recv_timeout(LONGEST_WAIT);
         if received.is_err() {
             let _ = child.kill();
         }
-        let status = child.wait().map_err(|error| format!("could not be waited for: {error}"))?;
-        let output = received.map_err(|_| "did not end in a minute".to_string())?;
-        let output = output.map_err(|error| format!("could not be read: {error}"))?;
-        if !status.success() {
-            return Err(format!("ended with {status}"));
-        }
-        Ok(output)
+        let status = child.wait();
+        let ended = match (received, status) {
+            (Err(_), _) => failed("did not end in a minute".to_string()),
+            (_, Err(error)) => failed(format!("could not be waited for: {error}")),
+            (Ok((output, Some(error))), _) => {
+                Ended { output, fault: Some(format!("could not be read: {error}")) }
+            }
+            (Ok((output, None)), Ok(status)) if status.success() => Ended { output, fault: None },
+            (Ok((output, None)), Ok(status)) => {
+                Ended { output, fault: Some(format!("ended with {status}")) }
+            }
+        };
+        (ended, worked)
     })
 }
 
@@ -56,4 +77,32 @@ fn feed(mut entrance: ChildStdin, input: &[u8], pieces: usize) {
             return;
         }
     }
+}
+
+/// Many questions as one input of `calls_test`: the length of each in front of
+/// it, in eight bytes.
+pub fn questions(inputs: &[&[u8]]) -> Vec<u8> {
+    let mut all = Vec::new();
+    for input in inputs {
+        all.extend((input.len() as u64).to_le_bytes());
+        all.extend(*input);
+    }
+    all
+}
+
+/// The answers in an output of `calls_test`, each without the line with a point
+/// that ends it; what stands behind the last such line is left out.
+pub fn answers(output: &[u8]) -> Vec<&[u8]> {
+    let mut all = Vec::new();
+    let (mut start, mut line) = (0, 0);
+    for (place, byte) in output.iter().enumerate() {
+        if *byte == b'\n' {
+            if &output[line..place] == b"." {
+                all.push(&output[start..line]);
+                start = place + 1;
+            }
+            line = place + 1;
+        }
+    }
+    all
 }

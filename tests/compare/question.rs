@@ -1,9 +1,7 @@
-//! The question of 14 bytes that stands before the file in the input of
-//! `calls_test`.
+//! A question of `calls_test`: a head of eight numbers, and the file behind it.
 
-use crate::file::two_bytes;
-
-pub const QUESTION_LENGTH: usize = 14;
+/// The bytes of a head: eight numbers of 8 bytes, little-endian.
+pub const HEAD_LENGTH: usize = 64;
 
 #[derive(Clone, Copy, PartialEq, Eq)]
 pub enum Operation {
@@ -14,10 +12,12 @@ pub enum Operation {
     Run,
     Join,
     Report,
+    Readers,
+    Constants,
 }
 
 /// All operations, each at its number.
-pub const OPERATIONS: [Operation; 7] = [
+pub const OPERATIONS: [Operation; 9] = [
     Operation::Open,
     Operation::Body,
     Operation::Moves,
@@ -25,12 +25,17 @@ pub const OPERATIONS: [Operation; 7] = [
     Operation::Run,
     Operation::Join,
     Operation::Report,
+    Operation::Readers,
+    Operation::Constants,
 ];
+
+/// How many of them, from the first on, random cases ask for.
+pub const RANDOM_OPERATIONS: usize = 7;
 
 #[derive(Clone, Copy)]
 pub struct Question {
     pub operation: Operation,
-    pub mode: u8,
+    pub mode: usize,
     pub first_table: usize,
     pub demand_state: usize,
     pub second_table: usize,
@@ -40,27 +45,32 @@ pub struct Question {
 }
 
 impl Question {
-    /// The question in an input, if there is a whole one with a known operation.
+    /// The question in an input, if there is a whole head with a known operation.
     pub fn read(input: &[u8]) -> Option<Question> {
-        if input.len() < QUESTION_LENGTH {
+        if input.len() < HEAD_LENGTH {
             return None;
         }
+        let number = |index: usize| {
+            let bytes = input[8 * index..8 * index + 8].try_into().expect("eight bytes");
+            u64::from_le_bytes(bytes) as usize
+        };
         Some(Question {
-            operation: *OPERATIONS.get(input[0] as usize)?,
-            mode: input[1],
-            first_table: two_bytes(input, 2),
-            demand_state: two_bytes(input, 4),
-            second_table: two_bytes(input, 6),
-            supply_state: two_bytes(input, 8),
-            first_length: two_bytes(input, 10),
-            second_length: two_bytes(input, 12),
+            operation: *OPERATIONS.get(number(0))?,
+            mode: number(1),
+            first_table: number(2),
+            demand_state: number(3),
+            second_table: number(4),
+            supply_state: number(5),
+            first_length: number(6),
+            second_length: number(7),
         })
     }
 
-    /// The whole input: the question, then the file.
+    /// The whole input: the head, then the file.
     pub fn before(&self, file: &[u8]) -> Vec<u8> {
-        let mut input = vec![self.operation as u8, self.mode];
         let numbers = [
+            self.operation as usize,
+            self.mode,
             self.first_table,
             self.demand_state,
             self.second_table,
@@ -68,9 +78,8 @@ impl Question {
             self.first_length,
             self.second_length,
         ];
-        for number in numbers {
-            input.extend((number as u16).to_le_bytes());
-        }
+        let mut input: Vec<u8> =
+            numbers.iter().flat_map(|number| (*number as u64).to_le_bytes()).collect();
         input.extend(file);
         input
     }

@@ -5,8 +5,9 @@ use crate::cases::Program;
 use crate::question::Question;
 use crate::rules::Mode;
 
-const COLUMNS: [&str; 8] =
-    ["slots", "Open", "Body", "Moves", "Decide", "Run", "Join", "Report"];
+const COLUMNS: [&str; 10] = [
+    "slots", "Open", "Body", "Moves", "Decide", "Run", "Join", "Report", "Readers", "Constants",
+];
 const NUMBERS: usize = 18;
 const VERDICTS: [&str; 3] = ["full yes", "full no with partial yes", "partial no"];
 /// Some run must have so many steps or more.
@@ -86,16 +87,16 @@ impl Tally {
     pub fn print(&self) {
         print!("number");
         for name in COLUMNS {
-            print!("{name:>8}");
+            print!("{name:>10}");
         }
         println!();
         for number in 0..NUMBERS {
             print!("{number:>6}");
             for column in 0..COLUMNS.len() {
                 if can_answer(column, number) {
-                    print!("{:>8}", self.answers[number][column]);
+                    print!("{:>10}", self.answers[number][column]);
                 } else {
-                    print!("{:>8}", "-");
+                    print!("{:>10}", "-");
                 }
             }
             println!();
@@ -144,6 +145,7 @@ fn can_answer(column: usize, number: usize) -> bool {
         "Moves" => number <= 14,
         "Join" => number <= 12 || [14, 16, 17].contains(&number),
         "Report" => number == 0 || number == 14,
+        "Readers" | "Constants" => number == 0,
         _ => number <= 15,
     }
 }

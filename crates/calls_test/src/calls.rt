@@ -1,151 +1,135 @@
-// Each call with slices of the length asked for, cut from the buffers that `main` lends, and what it leaves in them.
-use crate::lines;
+// Each call, and its answer: what it returns, and what the lent slices hold after it.
+use crate::input;
+use crate::lent;
+use crate::output;
 use checker::Counted;
 use checker::Decided;
 use checker::Joined;
-use checker::Question;
+use checker::Verdict;
+use rules::Limits;
+use rules::Row;
+use tables::Entry;
 use tables::Opened;
 
-pub(crate) fn open(file: &[u8]) {
-    let found = tables::open(file);
+pub(crate) fn open(asked: &[u8]) {
+    let found = tables::open(input::file(asked));
     match found {
-        Opened::Tables(k) => {
-            lines::carried_out();
-            lines::next(k);
-            lines::end();
-        }
-        Opened::Refused(refusal) => lines::refused(refusal),
+        Opened::Tables(k) => output::returned(k, 0, 0),
+        Opened::Refused(refusal) => output::refused(refusal),
     }
 }
 
-pub(crate) fn body(file: &[u8], table: usize) {
-    lines::refused(tables::body_refusal(file, table));
-    lines::bytes(tables::body(file, table));
+pub(crate) fn body(asked: &[u8]) {
+    let table = input::number(asked, 2);
+    output::refused(tables::body_refusal(input::file(asked), table));
+    output::bytes(tables::body(input::file(asked), table));
 }
 
-fn counted(found: Counted) {
+fn tell_count(found: Counted) {
     match found {
-        Counted::Count(count) => {
-            lines::carried_out();
-            lines::next(count);
-            lines::end();
-        }
-        Counted::Refused(refusal) => lines::refused(refusal),
+        Counted::Count(count) => output::returned(count, 0, 0),
+        Counted::Refused(refusal) => output::refused(refusal),
     }
 }
 
-fn moves_in(file: &[u8], question: Question, out: &mut [u16]) {
-    lines::fill(out);
-    counted(checker::moves(file, question, out));
-    lines::entries(out);
+fn tell_verdict(found: Verdict) {
+    output::returned(
+        found.yes as usize,
+        found.kept as usize,
+        found.rounds as usize,
+    );
 }
 
-pub(crate) fn moves(file: &[u8], question: Question, length: usize, buffer: &mut [u16]) {
-    if length <= buffer.len() {
-        moves_in(file, question, &mut buffer[..length]);
-    }
-}
-
-fn decide_in(file: &[u8], question: Question, mode: usize, marks: &mut [u16]) {
-    lines::fill(marks);
-    let found = checker::decide(file, question, mode, marks);
+fn tell_decision(found: Decided) {
     match found {
-        Decided::Answered(verdict) => {
-            lines::carried_out();
-            lines::next(verdict.yes as usize);
-            lines::next(verdict.kept as usize);
-            lines::next(verdict.rounds as usize);
-            lines::end();
-        }
-        Decided::Refused(refusal) => lines::refused(refusal),
-    }
-    lines::entries(marks);
-}
-
-pub(crate) fn decide(
-    file: &[u8],
-    question: Question,
-    mode: usize,
-    length: usize,
-    buffer: &mut [u16],
-) {
-    if length <= buffer.len() {
-        decide_in(file, question, mode, &mut buffer[..length]);
+        Decided::Answered(verdict) => tell_verdict(verdict),
+        Decided::Refused(refusal) => output::refused(refusal),
     }
 }
 
-fn run_in(file: &[u8], question: Question, mode: usize, marks: &mut [u16], steps: &mut [u16]) {
-    lines::fill(marks);
-    lines::fill(steps);
-    counted(checker::run(file, question, mode, marks, steps));
-    lines::entries(marks);
-    lines::entries(steps);
-}
-
-// The slice for steps is cut here, the one for marks by `run`.
-fn run_cut(
-    file: &[u8],
-    question: Question,
-    mode: usize,
-    marks: &mut [u16],
-    length: usize,
-    buffer: &mut [u16],
-) {
-    if length <= buffer.len() {
-        run_in(file, question, mode, marks, &mut buffer[..length]);
+fn call_on_entries(asked: &[u8], first: &mut [u16], second: &mut [u16]) {
+    let file = input::file(asked);
+    let question = input::question(asked);
+    let mode = input::number(asked, 1);
+    let operation = input::operation(asked);
+    match operation {
+        2 => tell_count(checker::moves(file, question, first)),
+        3 => tell_decision(checker::decide(file, question, mode, first)),
+        _ => tell_count(checker::run(file, question, mode, first, second)),
     }
 }
 
-pub(crate) fn run(
-    file: &[u8],
-    question: Question,
-    mode: usize,
-    length: usize,
-    buffer: &mut [u16],
-    steps_length: usize,
-    steps_buffer: &mut [u16],
-) {
-    if length <= buffer.len() {
-        run_cut(
-            file,
-            question,
-            mode,
-            &mut buffer[..length],
-            steps_length,
-            steps_buffer,
-        );
-    }
+// The calls that are lent 16-bit numbers.
+pub(crate) fn on_entries(asked: &[u8], first: &mut [u16], second: &mut [u16]) {
+    lent::fill(first);
+    lent::fill(second);
+    call_on_entries(asked, first, second);
+    output::entries(first);
+    output::entries(second);
 }
 
-fn join_in(file: &[u8], first: usize, second: usize, out: &mut [u8]) {
-    lines::fill_bytes(out);
-    let found = checker::join(file, first, second, out);
+fn tell_join(found: Joined) {
     match found {
-        Joined::Table(size) => {
-            lines::carried_out();
-            lines::next(size.states);
-            lines::next(size.rows);
-            lines::end();
-        }
-        Joined::Refused(refusal) => lines::refused(refusal),
-    }
-    lines::bytes(out);
-}
-
-pub(crate) fn join(file: &[u8], first: usize, second: usize, length: usize, buffer: &mut [u8]) {
-    if length <= buffer.len() {
-        join_in(file, first, second, &mut buffer[..length]);
+        Joined::Table(size) => output::returned(size.states, size.rows, 0),
+        Joined::Refused(refusal) => output::refused(refusal),
     }
 }
 
-fn report_in(file: &[u8], out: &mut [u8]) {
-    lines::fill_bytes(out);
-    counted(report::write(file, out));
-    lines::bytes(out);
+fn call_on_bytes(asked: &[u8], bytes: &mut [u8]) {
+    let file = input::file(asked);
+    let first = input::number(asked, 2);
+    let second = input::number(asked, 4);
+    let operation = input::operation(asked);
+    match operation {
+        5 => tell_join(checker::join(file, first, second, bytes)),
+        _ => tell_count(report::write(file, bytes)),
+    }
 }
 
-pub(crate) fn report_text(file: &[u8], length: usize, buffer: &mut [u8]) {
-    if length <= buffer.len() {
-        report_in(file, &mut buffer[..length]);
-    }
+// The calls that are lent bytes.
+pub(crate) fn on_bytes(asked: &[u8], bytes: &mut [u8]) {
+    lent::fill_bytes(bytes);
+    call_on_bytes(asked, bytes);
+    output::bytes(bytes);
+}
+
+fn read_entry(asked: &[u8], i: usize) {
+    let entry = tables::entry_at(input::file(asked), i);
+    let line = [
+        entry.kind as u16,
+        entry.states as u16,
+        entry.rows,
+        entry.offset,
+    ];
+    output::entries(&line);
+}
+
+fn read_row(asked: &[u8], i: usize) {
+    let row = tables::row_at(input::file(asked), i);
+    let line = [row.from as u16, row.target as u16, row.set];
+    output::entries(&line);
+}
+
+// What the readers of contents entries and of rows find, with the file taken as contents and as a body.
+pub(crate) fn readers(asked: &[u8]) {
+    let i = input::number(asked, 2);
+    read_entry(asked, i);
+    read_row(asked, i);
+}
+
+// The constants, in the order in which the case files name them.
+pub(crate) fn constants() {
+    let line = [
+        Row::FIN as u16,
+        Row::IDLE,
+        Row::NO_RESPONSE,
+        Entry::DEMAND as u16,
+        Entry::SUPPLY as u16,
+        Limits::RESOURCES as u16,
+        Limits::STATES as u16,
+        Limits::ROWS as u16,
+        Limits::TABLES as u16,
+        Limits::BYTES as u16,
+    ];
+    output::entries(&line);
 }

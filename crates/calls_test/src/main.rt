@@ -1,69 +1,68 @@
-// Reads a question and a file of tables from standard input, makes the call that the question names, and writes what it answers and what the lent
-// slices hold afterwards. The comparison below `tests` asks it thousands of questions. Relies on `tables`, `checker` and `report`.
+// Reads questions from standard input until its end, makes the call that each of them names, and writes what it answers and what the lent slices hold
+// afterwards. The case files and the comparison below `tests` ask it many questions in one run. Relies on `tables`, `checker` and `report`.
 //
-// A question is 14 bytes; numbers are little-endian:
-//   0 operation: 0 Open, 1 Body, 2 Moves of a pair, 3 Decide, 4 Run, 5 Join, 6 `report::write`    1 mode
-//   2 first table (the demand)    4 its state    6 second table (the supply)    8 its state
-//   10 entries of the first lent slice (of Join and of `report::write`: bytes)    12 entries of the second
-// The first line written is the number and the place, 0 and 0 where the call is carried out, and then what it returns. The lines after it are the
-// lent slices, every entry of them; for Body the bytes of the part that it returns. What they hold before the call: `lines::fill` and
-// `lines::fill_bytes`. A shorter input or another operation writes nothing.
-use checker::Question;
-use checker::Side;
-use rules::Limits;
-
+// A question is its length, then a head of eight numbers, then a file; the length is that of the head and the file. Numbers have 8 bytes and are
+// little-endian. The head:
+//   0 operation: 0 Open, 1 Body, 2 Moves of a pair, 3 Decide, 4 Run, 5 Join, 6 `report::write`, 7 the readers, 8 the constants    1 mode
+//   2 first table (the demand; for the readers the number of entry and row)    3 its state    4 second table (the supply)    5 its state
+//   6 entries of the first lent slice (of Join and of `report::write`: bytes)    7 entries of the second
+// The first line of an answer is the number and the place, 0 and 0 where the call is carried out, and three values that it returns, 0 where there are
+// fewer. The lines after it are the slices, every entry of them: two for Moves of a pair, Decide and Run, of which only Run is lent the second; one of
+// bytes for Join and `report::write`; for Body the bytes of the part that it returns. What slices hold before the call: `lent::fill` and
+// `lent::fill_bytes`. The readers and the constants answer with their numbers alone. A line with a single point ends each answer, and is all of it for a
+// question shorter than a head, for another operation, and where a slice is to have more than `lent::ROOM` entries. A question that is longer than
+// `LONGEST`, or that the input ends in, ends the program.
 mod calls;
-mod lines;
+mod input;
+mod lent;
+mod output;
 
-const HEAD: usize = 14;
+// The longest question.
+const LONGEST: usize = 65535;
 
-// More than a question can ask for.
-const ROOM: usize = 65536;
+// More questions than are ever asked.
+const QUESTIONS: u64 = 18446744073709551615;
 
-fn asked(head: &[u8]) -> Question {
-    Question {
-        demand: Side {
-            table: lines::word(head, 2),
-            state: lines::word(head, 4),
-        },
-        supply: Side {
-            table: lines::word(head, 6),
-            state: lines::word(head, 8),
-        },
-    }
-}
-
-fn answer(head: &[u8], file: &[u8], entries: &mut [u16], steps: &mut [u16], bytes: &mut [u8]) {
-    let operation = lines::byte(head, 0);
-    let mode = lines::byte(head, 1);
-    let question = asked(head);
-    let first = question.demand.table;
-    let second = question.supply.table;
-    let length = lines::word(head, 10);
-    let steps_length = lines::word(head, 12);
+fn answer(asked: &[u8]) {
+    let operation = input::operation(asked);
     match operation {
-        0 => calls::open(file),
-        1 => calls::body(file, first),
-        2 => calls::moves(file, question, length, entries),
-        3 => calls::decide(file, question, mode, length, entries),
-        4 => calls::run(file, question, mode, length, entries, steps_length, steps),
-        5 => calls::join(file, first, second, length, bytes),
-        6 => calls::report_text(file, length, bytes),
+        0 => calls::open(asked),
+        1 => calls::body(asked),
+        2..=4 => lent::lend_entries(asked),
+        5..=6 => lent::lend_bytes(asked),
+        7 => calls::readers(asked),
+        8 => calls::constants(),
         _ => {}
     }
 }
 
-fn split(input: &[u8], entries: &mut [u16], steps: &mut [u16], bytes: &mut [u8]) {
-    if HEAD <= input.len() {
-        answer(&input[..HEAD], &input[HEAD..], entries, steps, bytes);
+// Reads a question that fills the slice, and answers it; false where the input ends before.
+fn answer_one(asked: &mut [u8]) -> bool {
+    if io::read_full(0, asked) < asked.len() {
+        return false;
     }
+    answer(asked);
+    output::end_answer();
+    true
+}
+
+fn answer_within(room: &mut [u8], length: usize) -> bool {
+    if length <= room.len() {
+        return answer_one(&mut room[..length]);
+    }
+    false
+}
+
+// Reads and answers the next question; false where there is none.
+fn answer_next() -> bool {
+    let mut room = [0u8; LONGEST];
+    answer_within(&mut room, input::next_length())
 }
 
 fn main() {
-    let mut input = [0u8; HEAD + Limits::BYTES + 1];
-    let n = io::read_full(0, &mut input);
-    let mut entries = [0u16; ROOM];
-    let mut steps = [0u16; ROOM];
-    let mut bytes = [0u8; ROOM];
-    split(&input[..n], &mut entries, &mut steps, &mut bytes);
+    for _ in 0..QUESTIONS {
+        if !answer_next() {
+            break;
+        }
+    }
 }
