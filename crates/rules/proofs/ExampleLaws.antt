@@ -7,7 +7,7 @@ use mathlib.Core.List.{List, [], _∷_, flatMap, List·Memᴰ}
 use lib.Dec.{T, T-not, eqb, eqb→eq, ltb, ltb→lt}
 use lib.ListN.{length}
 use Rattle.rules.specs.declared.Row.{Row}
-use Rattle.rules.specs.Lists.{all, isEmpty, first}
+use Rattle.rules.specs.Lists.{all, isEmpty}
 use Rattle.rules.specs.Sets.{intersection, union, disjoint, difference, inside, larger, maximal}
 use Rattle.rules.specs.Rows.{rises}
 use Rattle.rules.specs.Machines.{Table, rowMoves, stateMoves, machine}
@@ -100,7 +100,7 @@ tested (isStuck A q) h =
     (ltb→lt q (A .n) (and-l (ltb q (A .n)) empty h), empty-list (stateMoves (A .rows) q) (and-r (ltb q (A .n)) empty h))
 
 passed : T (all test examples)
-unfolding examples test sameNumbers sameList sameTable sameRow flatMap demandE supplyE finOnly demandFifth demandSixth thenFin once atMostOnce repeated twoSlots oneOrTwo stuckSupply nothingOrOne intersection union difference inside larger maximal rises rowMoves stateMoves leftOf consumedOf unmetOf candidates prunes survivorsOf numbers hasResponse slotHolds pairHolds isPair keeps markBy mark marks first follows struckBy lacksResponse stepTo lastSlot slots steps disjoint insertRow insertRows joinRows join
+unfolding examples test sameNumbers sameList sameTable sameRow flatMap demandE supplyE finOnly demandFifth demandSixth thenFin once atMostOnce repeated twoSlots oneOrTwo stuckSupply nothingOrOne intersection union difference inside larger maximal rises rowMoves stateMoves leftOf consumedOf unmetOf candidates prunes survivorsOf numbers hasResponse slotHolds pairHolds isPair keeps markBy mark marks follows struckBy lacksResponse stepTo lastSlot slots steps disjoint insertRow insertRows joinRows join
 passed = tt
 
 -- every example of the table holds

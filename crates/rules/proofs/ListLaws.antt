@@ -65,10 +65,10 @@ module _ {A : Type 0} where
 
 module _ {A : Type 0} (p : A → Bool) (other : A) where
   first-hit : (x : A) (xs : List A) → T (p x) → first p other (x ∷ xs) ≡ x
-  first-hit x xs h = ap (λ (b : Bool). cond b x (first p other xs)) (T-true (p x) h)
+  first-hit x xs h = rw (T-true (p x) h) refl
 
   first-miss : (x : A) (xs : List A) → (T (p x) → ⊥) → first p other (x ∷ xs) ≡ first p other xs
-  first-miss x xs n = ap (λ (b : Bool). cond b x (first p other xs)) (T-false (p x) n)
+  first-miss x xs n = rw (T-false (p x) n) refl
 
   -- where some element passes, the first is one of them
   pub first-passes : (l : List A) → T (any p l) → List·Memᴰ (first p other l) l × T (p (first p other l))
