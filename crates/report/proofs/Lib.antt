@@ -1,5 +1,3 @@
-pub mod LineLaws
-pub mod StepsLaws
 pub mod TableLaws
 pub mod DecisionLaws
 pub mod PageLaws

@@ -10,9 +10,10 @@ use Rattle.text.proofs.TextLaws.{put-both}
 use Rattle.report.specs.declared.pages.Found.{Found}
 use Rattle.report.specs.declared.pages.Outcome.{Outcome}
 use Rattle.report.specs.declared.pages.Page.the-variants.{Answered}
-use Rattle.report.specs.Lines.{fileLine, startLine, verdictLine}
-use Rattle.report.specs.Pages.{stepLines, foundText, pageText}
-use Rattle.report.proofs.LineLaws.{four}
+use Rattle.lines.specs.Lines.{fileLine, verdictLine, stepLines}
+use Rattle.report.specs.Report.{askedLine}
+use Rattle.report.specs.Pages.{foundText, pageText}
+use Rattle.lines.proofs.LineLaws.{four}
 
 -- ---- what a mode found
 
@@ -37,5 +38,5 @@ module _ (mode : Mode) (found : Found) (steps : List ℕ) where
 
 module _ (a : Outcome) (full partial : List ℕ) where
   pub length-page : length (pageText (Answered a) full partial)
-      ≡ length (fileLine (a .bytes) (a .tables)) + length (startLine (a .question)) + length (foundText Full (a .full) full) + length (foundText Partial (a .partial) partial)
-  length-page = four (fileLine (a .bytes) (a .tables)) (startLine (a .question)) (foundText Full (a .full) full) (foundText Partial (a .partial) partial)
+      ≡ length (fileLine (a .bytes) (a .tables)) + length (askedLine (a .question)) + length (foundText Full (a .full) full) + length (foundText Partial (a .partial) partial)
+  length-page = four (fileLine (a .bytes) (a .tables)) (askedLine (a .question)) (foundText Full (a .full) full) (foundText Partial (a .partial) partial)

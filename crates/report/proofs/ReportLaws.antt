@@ -36,22 +36,22 @@ use Rattle.checker.specs.Decide.{modeOf}
 use Rattle.checker.specs.Named.{namedChecks}
 use Rattle.checker.specs.Pairs.{pairChecks, demandOf, supplyOf}
 use Rattle.text.proofs.TextLaws.{length-decimal}
-use Rattle.report.specs.Lines.{refusedLine, fileLine, startLine, modeWord, verdictWord, verdictLine, stepLine}
-use Rattle.report.specs.Report.{firstOf, firstDemand, firstSupply, startOf, startSide, questionOf, programChecks, modeText, decisionText, textAfter, text, roomFault, reportAnswer, reportBytes}
+use Rattle.lines.specs.Lines.{fileLine, modeWord, verdictWord, verdictLine, stepLine, stepLines}
+use Rattle.report.specs.Report.{firstOf, firstDemand, firstSupply, startOf, startSide, questionOf, refusalLine, askedLine, programChecks, modeText, decisionText, textAfter, text, roomFault, reportAnswer, reportBytes}
 use Rattle.report.specs.declared.pages.Found.{Found}
 use Rattle.report.specs.declared.pages.Outcome.{Outcome}
 use Rattle.report.specs.declared.pages.Page.{Page}
 use Rattle.report.specs.declared.pages.Page.the-variants as page
-use Rattle.report.specs.Pages.{stepLines, foundText, foundOf, pageText, Whole}
-use Rattle.report.proofs.LineLaws.{length-refused, length-file, length-start, length-verdict, length-step, length-row, four}
-use Rattle.report.proofs.StepsLaws.{slots-lines}
+use Rattle.report.specs.Pages.{foundText, foundOf, pageText, Whole}
+use Rattle.lines.proofs.LineLaws.{length-refused, length-file, length-start, length-verdict, length-step, length-row, four}
+use Rattle.lines.proofs.StepsLaws.{slots-lines}
 use Rattle.report.proofs.TableLaws.{first-kind, start-below}
 use Rattle.report.proofs.DecisionLaws.{few-pairs}
 
 -- ---- by what opening finds
 
 module _ (s : List ℕ) (o : Opened) (e : opened o ≡ openOf s) where
-  pub text-refused : (r : Refusal) → o ≡ Refused r → text s ≡ refusedLine r
+  pub text-refused : (r : Refusal) → o ≡ Refused r → text s ≡ refusalLine r
   unfolding text programChecks _then_
   text-refused r p = rw (refused-fault s r (rw p at e)) refl
 
@@ -60,12 +60,12 @@ module _ (s : List ℕ) (o : Opened) (e : opened o ≡ openOf s) where
     file-passed = tables-passed s k (rw p at e)
 
     module _ (d : ℕ) (demand : d ≡ firstOf s 1 k) where
-      pub text-no-demand : k ≤ d → text s ≡ refusedLine (refuse 12 0)
+      pub text-no-demand : k ≤ d → text s ≡ refusalLine (refuse 12 0)
       unfolding text programChecks _then_ fault
       text-no-demand h = rw (file-passed .0, file-passed .1, sym demand, le-leb k d h) refl
 
       module _ (u : ℕ) (supply : u ≡ firstOf s 2 k) (l : d < k) where
-        pub text-no-supply : k ≤ u → text s ≡ refusedLine (refuse 12 0)
+        pub text-no-supply : k ≤ u → text s ≡ refusalLine (refuse 12 0)
         unfolding text programChecks _then_ fault
         text-no-supply h = rw (file-passed .0, file-passed .1, sym demand, sym supply, lt-leb k d l, le-leb k u h) refl
 
@@ -115,8 +115,8 @@ first-asked s passed q same = rw same at (question-asked s passed)
 
 -- ---- how long the text can be
 
-refused-fits : (r : Refusal) → length (refusedLine r) ≤ 53
-refused-fits r = omega (arith, length-refused r, length-decimal (r .number), length-decimal (r .place))
+refused-fits : (r : Refusal) → length (refusalLine r) ≤ 53
+refused-fits r = omega (arith, length-refused (r .number) (r .place), length-decimal (r .number), length-decimal (r .place))
 
 word-fits : (mode : Mode) (b : Bool) → length (modeWord mode) + length (verdictWord b) ≤ 11
 unfolding verdictWord
@@ -165,11 +165,11 @@ text-after-fits s Passed e =
     let some = mode-fits Partial (demandOf s q) (supplyOf s q) (q .demand .state) (q .supply .state) few in
     omega (
       arith,
-      four (fileLine (length s) (tablesOf s)) (startLine q) (decisionText Full s q) (decisionText Partial s q),
+      four (fileLine (length s) (tablesOf s)) (askedLine q) (decisionText Full s q) (decisionText Partial s q),
       length-file (length s) (tablesOf s),
       length-decimal (length s),
       length-decimal (tablesOf s),
-      length-start q,
+      length-start (q .demand .table) (q .supply .table) (q .demand .state) (q .supply .state),
       length-decimal (q .demand .table),
       length-decimal (q .supply .table),
       length-decimal (q .demand .state),
@@ -204,7 +204,7 @@ module _ (s full partial : List ℕ) where
   page-short : (x : Page) → pageText x full partial ≡ text s → length (pageText x full partial) < 2 ^ 64
   page-short x e = let few : length (pageText x full partial) ≤ 385321 = rw e (text-fits s) in omega arith
 
-  pub refused-page : (r : Refusal) → text s ≡ refusedLine r → (pageText (page.Refused r) full partial ≡ text s) × Whole (page.Refused r) full partial
+  pub refused-page : (r : Refusal) → text s ≡ refusalLine r → (pageText (page.Refused r) full partial ≡ text s) × Whole (page.Refused r) full partial
   refused-page r e = (sym e, record { steps-in = tt; short = page-short (page.Refused r) (sym e) })
 
   -- where the checks pass, the answers about the first tables
@@ -215,11 +215,11 @@ module _ (s full partial : List ℕ) where
     abbrev run : ℕ → List ℕ
     run mode = steps (modeOf mode) (demandOf s q) (supplyOf s q) (q .demand .state) (q .supply .state)
 
-    text-outcome : text s ≡ fileLine (length s) k ++ startLine q ++ decisionText Full s q ++ decisionText Partial s q
+    text-outcome : text s ≡ fileLine (length s) k ++ askedLine q ++ decisionText Full s q ++ decisionText Partial s q
     unfolding text
     text-outcome =
         ap (λ (c : Checked). textAfter c s) passed
-        ∙ (λ i. fileLine (length s) (count i) ++ startLine (same i) ++ decisionText Full s (same i) ++ decisionText Partial s (same i))
+        ∙ (λ i. fileLine (length s) (count i) ++ askedLine (same i) ++ decisionText Full s (same i) ++ decisionText Partial s (same i))
 
     steps-in : (mode : ℕ) (a : Found) (l : List ℕ) → a ≡ found mode → 8192 ≤ length l → 2 * a .steps ≤ length l
     steps-in mode a l e h =
@@ -236,8 +236,8 @@ module _ (s full partial : List ℕ) where
       page-is : pageText (page.Answered outcome) full partial ≡ text s
       unfolding modeOf
       page-is =
-          (λ i. fileLine (length s) k ++ startLine q ++ foundText Full (full-found i) (full-run i) ++ foundText Partial (partial-found i) (partial-run i))
-          ∙ (λ i. fileLine (length s) k ++ startLine q
+          (λ i. fileLine (length s) k ++ askedLine q ++ foundText Full (full-found i) (full-run i) ++ foundText Partial (partial-found i) (partial-run i))
+          ∙ (λ i. fileLine (length s) k ++ askedLine q
           ++ found-text Full (demandOf s q) (supplyOf s q) (q .demand .state) (q .supply .state) entry i
           ++ found-text Partial (demandOf s q) (supplyOf s q) (q .demand .state) (q .supply .state) more i)
           ∙ sym text-outcome

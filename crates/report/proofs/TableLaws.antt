@@ -1,12 +1,12 @@
 -- The first table of a kind, and the state that it is started from.
 use Prim.Native.Nat.{ℕ, zero, suc, _+_, _≤_, _<_}
-use mathlib.Core.Path.{_≡_, refl, sym, _∙_}
+use mathlib.Core.Path.{_≡_, refl, sym, _∙_, subst}
 use mathlib.Core.Bool.{Bool, true, false, cond}
 use mathlib.Core.List.{List}
 use mathlib.Core.Logic.{_⊎_, inl, inr}
 use native.Mathlib.Omega.{arith}
 use lib.Dec.{ltb, eqb}
-use borrow.Author.Tests.{ltb-true, lt-ltb, le-ltb, eq-eqb, ne-eqb, eqb-true, eqb-false}
+use borrow.Author.Tests.{ltb-true, ltb-false, lt-ltb, le-ltb, eq-eqb, ne-eqb, eqb-true, eqb-false}
 use Rattle.rules.proofs.BelowLaws.{lt-cases}
 use Rattle.tables.specs.File.{entryOf}
 use Rattle.report.specs.Report.{firstOf, startOf}
@@ -56,6 +56,22 @@ module _ (s : List ℕ) (kind : ℕ) where
       go true e b f l ih = ih (ltb-true _ _ e)
       go false e true f l ih = eqb-true _ _ f
       go false e false f l ih = absurd (omega arith)
+
+  -- and none before it is; where the answer is k, none of the k tables is
+  pub none-before : (k j : ℕ) → j < firstOf s kind k → entryOf s j .kind ≡ kind → ⊥
+  unfolding firstOf
+  none-before zero j h e = absurd (omega arith)
+  none-before (suc i) j h e = go (ltb (firstOf s kind i) i) refl (eqb (entryOf s i .kind) kind) refl h (λ l. none-before i j l e)
+    where
+      go : (a : Bool) → ltb (firstOf s kind i) i ≡ a → (b : Bool) → eqb (entryOf s i .kind) kind ≡ b → j < cond a (firstOf s kind i) (cond b i (suc i))
+          → (j < firstOf s kind i → ⊥) → ⊥
+      go true f b g l ih = ih l
+      go false f true g l ih = let here : j < i = l in let past : i ≤ firstOf s kind i = ltb-false (firstOf s kind i) i f in ih (omega arith)
+      go false f false g l ih = last (lt-cases j i l) (ltb-false (firstOf s kind i) i f)
+        where
+          last : (j < i) ⊎ (j ≡ i) → i ≤ firstOf s kind i → ⊥
+          last (inl m) past = ih (omega arith)
+          last (inr m) past = eqb-false _ _ g (subst (λ (n : ℕ). entryOf s n .kind ≡ kind) m e)
 
 -- ---- the start
 

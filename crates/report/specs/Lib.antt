@@ -1,3 +1,2 @@
-pub mod Lines
 pub mod Report
 pub mod Pages

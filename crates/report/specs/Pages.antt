@@ -1,6 +1,6 @@
 -- A page: the text for a file, composed and not yet written. It is the refusal, or the outcome, with the steps of both modes in slices beside them.
 use Prim.Native.Nat.{ℕ, _*_, _^_, _≤_, _<_}
-use mathlib.Core.List.{List, [], _∷_, _++_}
+use mathlib.Core.List.{List, _++_}
 use lib.Dec.{eqb}
 use lib.ListN.{length, take}
 use Rattle.rules.specs.declared.Mode.{Mode}
@@ -13,13 +13,8 @@ use Rattle.checker.specs.Pairs.{demandOf, supplyOf}
 use Rattle.report.specs.declared.pages.Found.{Found}
 use Rattle.report.specs.declared.pages.Page.{Page}
 use Rattle.report.specs.declared.pages.Page.the-variants.{Refused, Answered}
-use Rattle.report.specs.Lines.{refusedLine, fileLine, startLine, verdictLine, stepLine}
-
--- the lines of steps: supply row and task row of each
-abbrev pub stepLines : List ℕ → List ℕ
-stepLines [] = []
-stepLines (supply ∷ []) = []
-stepLines (supply ∷ task ∷ rest) = stepLine supply task ++ stepLines rest
+use Rattle.lines.specs.Lines.{fileLine, verdictLine, stepLines}
+use Rattle.report.specs.Report.{refusalLine, askedLine}
 
 -- what a mode found, with its steps at the start of a slice
 unfoldable pub foundText : Mode → Found → List ℕ → List ℕ
@@ -28,9 +23,9 @@ foundText mode found steps =
 
 -- the text of a page
 abbrev pub pageText : Page → List ℕ → List ℕ → List ℕ
-pageText (Refused r) full partial = refusedLine r
+pageText (Refused r) full partial = refusalLine r
 pageText (Answered a) full partial =
-    fileLine (a .bytes) (a .tables) ++ startLine (a .question) ++ foundText Full (a .full) full ++ foundText Partial (a .partial) partial
+    fileLine (a .bytes) (a .tables) ++ askedLine (a .question) ++ foundText Full (a .full) full ++ foundText Partial (a .partial) partial
 
 -- the steps lie in their slices
 abbrev pub StepsIn : Page → List ℕ → List ℕ → Type 0

@@ -10,6 +10,7 @@ use Rattle.rules.specs.Slices.{overwrite}
 use Rattle.rules.specs.Machines.{Machine}
 use Rattle.rules.specs.Rounds.{mark, keptCount, rounds}
 use Rattle.rules.specs.Steps.{slots}
+use Rattle.tables.specs.declared.Refusal.{Refusal}
 use Rattle.tables.specs.declared.Checked.{Checked}
 use Rattle.tables.specs.declared.Checked.the-variants.{Passed, Fault}
 use Rattle.tables.specs.Checks.{fault, _then_}
@@ -20,7 +21,7 @@ use Rattle.tables.specs.Tables.{tableOf}
 use Rattle.checker.specs.declared.Side.{Side}
 use Rattle.checker.specs.declared.Question.{Question}
 use Rattle.checker.specs.Pairs.{demandOf, supplyOf}
-use Rattle.report.specs.Lines.{refusedLine, fileLine, startLine, verdictLine, stepLine}
+use Rattle.lines.specs.Lines.{refusedLine, fileLine, startLine, verdictLine, stepLine}
 
 -- the first of the tables 0 to k - 1 that is of a kind, or k where none is
 unfoldable pub firstOf : List ℕ → ℕ → ℕ → ℕ
@@ -46,6 +47,14 @@ startSide s table = record { table = table; state = startOf (tableOf s table .n)
 abbrev pub questionOf : List ℕ → Question
 questionOf s = record { demand = startSide s (firstDemand s); supply = startSide s (firstSupply s) }
 
+-- "the line `refused N at P`", of a refusal
+abbrev pub refusalLine : Refusal → List ℕ
+refusalLine r = refusedLine (r .number) (r .place)
+
+-- "table numbers; states", of a question
+abbrev pub askedLine : Question → List ℕ
+askedLine q = startLine (q .demand .table) (q .supply .table) (q .demand .state) (q .supply .state)
+
 -- "a missing kind is 12 at 0"
 unfoldable pub programChecks : List ℕ → Checked
 programChecks s = fileFault s then fault (leb (tablesOf s) (firstDemand s)) 12 0 then fault (leb (tablesOf s) (firstSupply s)) 12 0
@@ -62,9 +71,9 @@ decisionText mode s q = modeText mode (demandOf s q) (supplyOf s q) (q .demand .
 
 -- "A refusal prints only the line"; else the lines of both modes, full first
 abbrev pub textAfter : Checked → List ℕ → List ℕ
-textAfter (Fault r) s = refusedLine r
+textAfter (Fault r) s = refusalLine r
 textAfter Passed s =
-    fileLine (length s) (tablesOf s) ++ startLine (questionOf s) ++ decisionText Full s (questionOf s) ++ decisionText Partial s (questionOf s)
+    fileLine (length s) (tablesOf s) ++ askedLine (questionOf s) ++ decisionText Full s (questionOf s) ++ decisionText Partial s (questionOf s)
 
 -- the whole text, by what the checks find
 unfoldable pub text : List ℕ → List ℕ

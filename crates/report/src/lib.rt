@@ -1,5 +1,5 @@
 // The whole text that the program prints for a file of tables, written to a lent buffer. Nothing is asked of the caller. Relies on `tables` to open the
-// file, on `checker` for the decisions and the runs, on `text` for words and numbers, and on `rules` for rows and limits.
+// file, on `checker` for the decisions and the runs, on `lines` for the lines of the text, and on `rules` for rows and limits.
 ghost use mathlib.Core.Path.{_≡_};
 ghost use lib.ListN.{length};
 ghost use Rattle.checker.specs.Calls.{counted};
@@ -10,7 +10,6 @@ use pages::compose;
 use pages::put_page;
 use tables::Refusal;
 
-mod lines;
 mod pages;
 
 // No text is longer (`text-fits`): 165 bytes of the first two lines, and for each mode 66 of its line and 4,096 steps of 47, every number taken as one

@@ -9,16 +9,16 @@ ghost use Rattle.checker.specs.Decide.{modeOf};
 ghost use Rattle.report.specs.declared.pages.Page.the-variants.{Answered};
 ghost use Rattle.report.specs.Report.{text, firstOf, startSide};
 ghost use Rattle.report.specs.Pages.{foundAt, stepsAt, foundText, pageText, Whole};
-use crate::lines::put_file;
-use crate::lines::put_refused;
-use crate::lines::put_start;
-use crate::lines::put_steps;
-use crate::lines::put_verdict;
 use checker::Counted;
 use checker::Decided;
 use checker::Question;
 use checker::Side;
 use checker::Verdict;
+use lines::put_file;
+use lines::put_refused;
+use lines::put_start;
+use lines::put_steps;
+use lines::put_verdict;
 use rules::Limits;
 use rules::Mode;
 use rules::Row;
@@ -151,7 +151,8 @@ fn put_found(out: &mut [u8], at: usize, mode: Mode, found: Found, steps: &[u16])
     ensures place { λ r. ⌜ r ≡ at + length (foundText mode found (now (steps .entry))) ⌝ }
     ensures bytes { λ r. ⌜ now (out .exit) ≡ writeAt at (foundText mode found (now (steps .entry))) (now (out .entry)) ⌝ }
 {
-    let at = put_verdict(out, at, mode, found.verdict);
+    let verdict = found.verdict;
+    let at = put_verdict(out, at, mode, verdict.yes, verdict.rounds, verdict.kept);
     let end = 2 * found.steps;
     put_steps(out, at, &steps[..end])
 }
@@ -162,7 +163,15 @@ fn put_outcome(out: &mut [u8], outcome: Outcome, full: &[u16], partial: &[u16]) 
     ensures bytes { λ r. ⌜ now (out .exit) ≡ writeAt 0 (pageText (Answered outcome) (now (full .entry)) (now (partial .entry))) (now (out .entry)) ⌝ }
 {
     let at = put_file(out, 0, outcome.bytes, outcome.tables);
-    let at = put_start(out, at, outcome.question);
+    let asked = outcome.question;
+    let at = put_start(
+        out,
+        at,
+        asked.demand.table,
+        asked.supply.table,
+        asked.demand.state,
+        asked.supply.state,
+    );
     let at = put_found(out, at, Mode::Full, outcome.full, full);
     put_found(out, at, Mode::Partial, outcome.partial, partial)
 }
@@ -174,7 +183,7 @@ pub(crate) fn put_page(out: &mut [u8], page: Page, full: &[u16], partial: &[u16]
     ensures bytes { λ r. ⌜ now (out .exit) ≡ writeAt 0 (pageText page (now (full .entry)) (now (partial .entry))) (now (out .entry)) ⌝ }
 {
     match page {
-        Page::Refused(refusal) => put_refused(out, 0, refusal),
+        Page::Refused(refusal) => put_refused(out, 0, refusal.number as usize, refusal.place),
         Page::Answered(outcome) => put_outcome(out, outcome, full, partial),
     }
 }

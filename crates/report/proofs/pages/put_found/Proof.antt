@@ -8,16 +8,16 @@ use Rattle.report.proofs.pages.put_found.Statement.{statement}
 use Rattle.report.proofs.pages.put_found.Tie as tie
 
 put-verdict-requires : tie.Need-put-verdict-requires
-put-verdict-requires c κs = let room = c .before .before .before .pre .1 in omega (arith, length-found (c .before .before .before .args .mode) (c .before .before .before .args .found) (c .before .before .before .args .steps .now))
+put-verdict-requires c κs = let room = c .before .before .before .before .pre .1 in omega (arith, length-found (c .before .before .before .before .args .mode) (c .before .before .before .before .args .found) (c .before .before .before .before .args .steps .now))
 
 mul-end : tie.Need-mul-end
 mul-end c = search needs
 
 slice-aggregate-put-steps : tie.Need-slice-aggregate-put-steps
-slice-aggregate-put-steps c = sym (length-take-le _ _ (c .before .before .before .before .before .before .before .before .before .pre .0))
+slice-aggregate-put-steps c = sym (length-take-le _ _ (c .before .before .before .before .before .before .before .before .before .before .pre .0))
 
 put-steps-requires : tie.Need-put-steps-requires
-put-steps-requires c κs = let room = c .before .before .before .before .before .before .before .before .before .pre .1 in let line = c .before .before .before .before .before .put-verdict .ensures .0 in omega (arith, length-found (c .before .before .before .before .before .before .before .before .before .args .mode) (c .before .before .before .before .before .before .before .before .before .args .found) (c .before .before .before .before .before .before .before .before .before .args .steps .now))
+put-steps-requires c κs = let room = c .before .before .before .before .before .before .before .before .before .before .pre .1 in let line = c .before .before .before .before .before .put-verdict .ensures .0 in omega (arith, length-found (c .before .before .before .before .before .before .before .before .before .before .args .mode) (c .before .before .before .before .before .before .before .before .before .before .args .found) (c .before .before .before .before .before .before .before .before .before .before .args .steps .now))
 
 same-length : tie.Need-same-length
 same-length c = search needs

@@ -10,19 +10,19 @@ put-file-requires : tie.Need-put-file-requires
 put-file-requires c κs = let room = c .before .before .before .before .pre .short in omega (arith, length-page (c .before .before .before .before .args .outcome) (c .before .before .before .before .args .full .now) (c .before .before .before .before .args .partial .now))
 
 put-start-requires : tie.Need-put-start-requires
-put-start-requires c κs = let room = c .before .before .before .before .before .before .before .before .pre .short in let e1 = c .before .before .before .put-file .ensures .0 in omega (arith, length-page (c .before .before .before .before .before .before .before .before .args .outcome) (c .before .before .before .before .before .before .before .before .args .full .now) (c .before .before .before .before .before .before .before .before .args .partial .now))
+put-start-requires c κs = let room = c .before .before .before .before .before .before .before .before .before .pre .short in let e1 = c .before .before .before .before .put-file .ensures .0 in omega (arith, length-page (c .before .before .before .before .before .before .before .before .before .args .outcome) (c .before .before .before .before .before .before .before .before .before .args .full .now) (c .before .before .before .before .before .before .before .before .before .args .partial .now))
 
 put-found-requires : tie.Need-put-found-requires
-put-found-requires c κs = (c .before .before .before .before .before .before .before .before .before .before .before .before .pre .steps-in .0, (let room = c .before .before .before .before .before .before .before .before .before .before .before .before .pre .short in let e1 = c .before .before .before .before .before .before .before .put-file .ensures .0 in let e2 = c .before .before .before .put-start .ensures .0 in omega (arith, length-page (c .before .before .before .before .before .before .before .before .before .before .before .before .args .outcome) (c .before .before .before .before .before .before .before .before .before .before .before .before .args .full .now) (c .before .before .before .before .before .before .before .before .before .before .before .before .args .partial .now))))
+put-found-requires c κs = (c .before .before .before .before .before .before .before .before .before .before .before .before .before .pre .steps-in .0, (let room = c .before .before .before .before .before .before .before .before .before .before .before .before .before .pre .short in let e1 = c .before .before .before .before .before .before .before .before .put-file .ensures .0 in let e2 = c .before .before .before .put-start .ensures .0 in omega (arith, length-page (c .before .before .before .before .before .before .before .before .before .before .before .before .before .args .outcome) (c .before .before .before .before .before .before .before .before .before .before .before .before .before .args .full .now) (c .before .before .before .before .before .before .before .before .before .before .before .before .before .args .partial .now))))
 
 put-found-requires-2 : tie.Need-put-found-requires-2
-put-found-requires-2 c κs = (c .before .before .before .before .before .before .before .before .before .before .before .before .before .before .before .before .pre .steps-in .1, (let room = c .before .before .before .before .before .before .before .before .before .before .before .before .before .before .before .before .pre .short in let e1 = c .before .before .before .before .before .before .before .before .before .before .before .put-file .ensures .0 in let e2 = c .before .before .before .before .before .before .before .put-start .ensures .0 in let e3 = c .before .before .before .put-found .ensures .0 in omega (arith, length-page (c .before .before .before .before .before .before .before .before .before .before .before .before .before .before .before .before .args .outcome) (c .before .before .before .before .before .before .before .before .before .before .before .before .before .before .before .before .args .full .now) (c .before .before .before .before .before .before .before .before .before .before .before .before .before .before .before .before .args .partial .now))))
+put-found-requires-2 c κs = (c .before .before .before .before .before .before .before .before .before .before .before .before .before .before .before .before .before .pre .steps-in .1, (let room = c .before .before .before .before .before .before .before .before .before .before .before .before .before .before .before .before .before .pre .short in let e1 = c .before .before .before .before .before .before .before .before .before .before .before .before .put-file .ensures .0 in let e2 = c .before .before .before .before .before .before .before .put-start .ensures .0 in let e3 = c .before .before .before .put-found .ensures .0 in omega (arith, length-page (c .before .before .before .before .before .before .before .before .before .before .before .before .before .before .before .before .before .args .outcome) (c .before .before .before .before .before .before .before .before .before .before .before .before .before .before .before .before .before .args .full .now) (c .before .before .before .before .before .before .before .before .before .before .before .before .before .before .before .before .before .args .partial .now))))
 
 same-length : tie.Need-same-length
 same-length c = search needs
 
 returns : tie.Need-returns
-returns c = let all = put-both _ _ _ _ (put-both _ _ _ _ (put-both _ _ _ _ (c .before .before .before .before .before .before .before .before .before .before .before .before .before .before .put-file .ensures) (c .before .before .before .before .before .before .before .before .before .before .put-start .ensures)) (c .before .before .before .before .before .before .put-found .ensures)) (c .before .before .put-found2 .ensures) in ((let last = all .0 in omega arith), all .1)
+returns c = let all = put-both _ _ _ _ (put-both _ _ _ _ (put-both _ _ _ _ (c .before .before .before .before .before .before .before .before .before .before .before .before .before .before .before .put-file .ensures) (c .before .before .before .before .before .before .before .before .before .before .put-start .ensures)) (c .before .before .before .before .before .before .put-found .ensures)) (c .before .before .put-found2 .ensures) in ((let last = all .0 in omega arith), all .1)
 
 pub put-outcome-spec : {M : Type 1} → statement M
 put-outcome-spec =

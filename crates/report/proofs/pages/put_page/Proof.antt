@@ -11,8 +11,11 @@ use Rattle.report.proofs.pages.put_page.Tie as tie
 enum-known-page : tie.Need-enum-known-page
 enum-known-page c = search needs
 
+cast-put-refused : tie.Need-cast-put-refused
+cast-put-refused c = search needs
+
 put-refused-requires : tie.Need-put-refused-requires
-put-refused-requires c κs = let room = c .before .before .before .before .before .before .before .pre .short in let line = ap (λ (p : Page). length (pageText p (c .before .before .before .before .before .before .before .args .full .now) (c .before .before .before .before .before .before .before .args .partial .now))) (c .before .before .page .given .1) in omega arith
+put-refused-requires c κs = let room = c .before .before .before .before .before .before .before .before .pre .short in let line = ap (λ (p : Page). length (pageText p (c .before .before .before .before .before .before .before .before .args .full .now) (c .before .before .before .before .before .before .before .before .args .partial .now))) (c .before .before .before .page .given .1) in omega arith
 
 enum-known-page-2 : tie.Need-enum-known-page-2
 enum-known-page-2 c = search needs
@@ -24,7 +27,7 @@ same-length : tie.Need-same-length
 same-length c = search needs
 
 returns : tie.Need-returns
-returns c = rw (c .before .before .before .before .before .page .given .1) ((let place = c .before .before .put-refused .ensures .0 in omega arith), c .before .before .put-refused .ensures .1)
+returns c = rw (c .before .before .before .before .before .before .page .given .1) ((let place = c .before .before .put-refused .ensures .0 in omega arith), c .before .before .put-refused .ensures .1)
 
 same-length-2 : tie.Need-same-length-2
 same-length-2 c = search needs
@@ -37,6 +40,7 @@ put-page-spec =
     tie.close
     (tie.spec
     enum-known-page
+    cast-put-refused
     put-refused-requires
     enum-known-page-2
     put-outcome-requires

@@ -9,8 +9,7 @@ use Rattle.rules.specs.Slices.{writeAt}
 use Rattle.rules.proofs.SliceLaws.{writeAt-append}
 use Rattle.rules.specs.Moves.{Candidate}
 use Rattle.rules.specs.Steps.{stepRows}
-use Rattle.report.specs.Lines.{stepLine}
-use Rattle.report.specs.Pages.{stepLines}
+use Rattle.lines.specs.Lines.{stepLine, stepLines}
 
 -- a step, and those behind it
 module _ (l : List ℕ) (i : ℕ) (h : 2 * i + 1 < length l) where

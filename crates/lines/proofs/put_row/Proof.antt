@@ -1,11 +1,11 @@
--- `report::lines::put_row` meets its contract, by cases of the row.
+-- `lines::put_row` meets its contract, by cases of the row.
 use mathlib.Core.Path.{ap}
 use native.Mathlib.Omega.{arith}
 use lib.ListN.{length}
-use Rattle.report.proofs.LineLaws.{row-idle, row-none, row-number}
+use Rattle.lines.proofs.LineLaws.{row-idle, row-none, row-number}
 use borrow.Author.Needs.{needs}
-use Rattle.report.proofs.lines.put_row.Statement.{statement}
-use Rattle.report.proofs.lines.put_row.Tie as tie
+use Rattle.lines.proofs.put_row.Statement.{statement}
+use Rattle.lines.proofs.put_row.Tie as tie
 
 slice-aggregate-put : tie.Need-slice-aggregate-put
 slice-aggregate-put c = search needs

@@ -1,11 +1,11 @@
--- `report::lines::put_file` meets its contract. Its pieces are written one after the other.
+-- `lines::put_file` meets its contract. Its pieces are written one after the other.
 use native.Mathlib.Omega.{arith}
 use Rattle.text.proofs.TextLaws.{put-both}
-use Rattle.report.specs.Lines.{fileLine}
-use Rattle.report.proofs.LineLaws.{length-file}
+use Rattle.lines.specs.Lines.{fileLine}
+use Rattle.lines.proofs.LineLaws.{length-file}
 use borrow.Author.Needs.{needs}
-use Rattle.report.proofs.lines.put_file.Statement.{statement}
-use Rattle.report.proofs.lines.put_file.Tie as tie
+use Rattle.lines.proofs.put_file.Statement.{statement}
+use Rattle.lines.proofs.put_file.Tie as tie
 
 slice-aggregate-put-field : tie.Need-slice-aggregate-put-field
 slice-aggregate-put-field c = search needs

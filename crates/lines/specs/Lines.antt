@@ -2,12 +2,10 @@
 use Prim.Native.Nat.{ℕ}
 use Prim.Native.String.{String}
 use mathlib.Core.Bool.{Bool, cond}
-use mathlib.Core.List.{List, _++_}
+use mathlib.Core.List.{List, [], _∷_, _++_}
 use lib.Dec.{eqb}
 use Rattle.rules.specs.declared.Mode.{Mode}
 use Rattle.rules.specs.declared.Mode.the-variants.{Full, Partial}
-use Rattle.tables.specs.declared.Refusal.{Refusal}
-use Rattle.checker.specs.declared.Question.{Question}
 use Rattle.text.specs.Text.{ascii, decimal}
 
 -- words and a number
@@ -15,18 +13,16 @@ abbrev pub field : String → ℕ → List ℕ
 field words n = ascii words ++ decimal n
 
 -- "the line `refused N at P`"
-unfoldable pub refusedLine : Refusal → List ℕ
-refusedLine r = field "refused " (r .number) ++ field " at " (r .place) ++ ascii "\n"
+unfoldable pub refusedLine : ℕ → ℕ → List ℕ
+refusedLine number place = field "refused " number ++ field " at " place ++ ascii "\n"
 
 -- "Fields: input bytes and k"
 unfoldable pub fileLine : ℕ → ℕ → List ℕ
 fileLine bytes k = field "slots " bytes ++ field " bytes " k ++ ascii " tables\n"
 
 -- "table numbers; states"
-unfoldable pub startLine : Question → List ℕ
-startLine q =
-    field "demand " (q .demand .table) ++ field " supply " (q .supply .table)
-    ++ field " start " (q .demand .state) ++ field " " (q .supply .state) ++ ascii "\n"
+unfoldable pub startLine : ℕ → ℕ → ℕ → ℕ → List ℕ
+startLine demand supply t s = field "demand " demand ++ field " supply " supply ++ field " start " t ++ field " " s ++ ascii "\n"
 
 -- the line of a mode begins with its name
 abbrev pub modeWord : Mode → List ℕ
@@ -48,3 +44,9 @@ rowWord row = cond (eqb row 65535) (ascii "idle") (cond (eqb row 65534) (ascii "
 -- "supply row, task row"
 unfoldable pub stepLine : ℕ → ℕ → List ℕ
 stepLine supply task = ascii "step " ++ rowWord supply ++ ascii " " ++ rowWord task ++ ascii "\n"
+
+-- the lines of steps: supply row and task row of each
+abbrev pub stepLines : List ℕ → List ℕ
+stepLines [] = []
+stepLines (supply ∷ []) = []
+stepLines (supply ∷ task ∷ rest) = stepLine supply task ++ stepLines rest

@@ -1,11 +1,11 @@
--- `report::lines::put_field` meets its contract. The number is written behind the words.
+-- `lines::put_field` meets its contract. The number is written behind the words.
 use native.Mathlib.Omega.{arith}
 use Rattle.text.proofs.TextLaws.{put-both}
 use lib.ListN.{length-append}
 use Rattle.text.specs.Text.{decimal}
 use borrow.Author.Needs.{needs}
-use Rattle.report.proofs.lines.put_field.Statement.{statement}
-use Rattle.report.proofs.lines.put_field.Tie as tie
+use Rattle.lines.proofs.put_field.Statement.{statement}
+use Rattle.lines.proofs.put_field.Tie as tie
 
 put-requires : tie.Need-put-requires
 put-requires c κs = let room = c .before .before .before .pre in omega (arith, length-append (c .before .before .before .args .words .now) (decimal (c .before .before .before .args .n)))

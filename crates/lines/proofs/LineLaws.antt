@@ -8,11 +8,9 @@ use lib.Dec.{eqb}
 use lib.ListN.{length, length-append}
 use borrow.Author.Tests.{eq-eqb, ne-eqb}
 use Rattle.rules.specs.declared.Mode.{Mode}
-use Rattle.tables.specs.declared.Refusal.{Refusal}
-use Rattle.checker.specs.declared.Question.{Question}
 use Rattle.text.specs.Text.{ascii, decimal}
 use Rattle.text.proofs.TextLaws.{length-decimal}
-use Rattle.report.specs.Lines.{field, refusedLine, fileLine, startLine, modeWord, verdictWord, verdictLine, rowWord, stepLine}
+use Rattle.lines.specs.Lines.{field, refusedLine, fileLine, startLine, modeWord, verdictWord, verdictLine, rowWord, stepLine}
 
 -- pieces end to end
 three : (p q r : List ℕ) → length (p ++ q ++ r) ≡ length p + length q + length r
@@ -24,19 +22,18 @@ four p q r s = length-append (p ++ q ++ r) s ∙ ap (λ (k : ℕ). k + length s)
 five : (p q r s t : List ℕ) → length (p ++ q ++ r ++ s ++ t) ≡ length p + length q + length r + length s + length t
 five p q r s t = length-append (p ++ q ++ r ++ s) t ∙ ap (λ (k : ℕ). k + length t) (four p q r s)
 
-pub length-refused : (r : Refusal) → length (refusedLine r) ≡ 13 + length (decimal (r .number)) + length (decimal (r .place))
+pub length-refused : (number place : ℕ) → length (refusedLine number place) ≡ 13 + length (decimal number) + length (decimal place)
 unfolding refusedLine
-length-refused r = omega (arith, three (field "refused " (r .number)) (field " at " (r .place)) (ascii "\n"))
+length-refused number place = omega (arith, three (field "refused " number) (field " at " place) (ascii "\n"))
 
 pub length-file : (bytes k : ℕ) → length (fileLine bytes k) ≡ 21 + length (decimal bytes) + length (decimal k)
 unfolding fileLine
 length-file bytes k = omega (arith, three (field "slots " bytes) (field " bytes " k) (ascii " tables\n"))
 
-pub length-start : (q : Question) → length (startLine q)
-    ≡ 24 + length (decimal (q .demand .table)) + length (decimal (q .supply .table)) + length (decimal (q .demand .state)) + length (decimal (q .supply .state))
+pub length-start : (demand supply t s : ℕ)
+    → length (startLine demand supply t s) ≡ 24 + length (decimal demand) + length (decimal supply) + length (decimal t) + length (decimal s)
 unfolding startLine
-length-start q =
-    omega (arith, five (field "demand " (q .demand .table)) (field " supply " (q .supply .table)) (field " start " (q .demand .state)) (field " " (q .supply .state)) (ascii "\n"))
+length-start demand supply t s = omega (arith, five (field "demand " demand) (field " supply " supply) (field " start " t) (field " " s) (ascii "\n"))
 
 pub length-verdict : (mode : Mode) (answer : Bool) (rounds kept : ℕ) → length (verdictLine mode answer rounds kept)
     ≡ 15 + length (modeWord mode) + length (verdictWord answer) + length (decimal rounds) + length (decimal kept)

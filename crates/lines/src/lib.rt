@@ -1,22 +1,19 @@
-// The lines of the text. Each function writes its piece from a place on, as far as the buffer reaches, and returns the place behind it.
+// The lines that the program prints, of the numbers in them. Each function writes its piece from a place on, as far as the buffer reaches, and returns
+// the place behind it. Relies on `text` for words and numbers, and on `rules` for modes and the numbers of rows.
 ghost use Prim.Native.Nat.{_+_, _^_, _<_};
 ghost use mathlib.Core.Path.{_≡_};
 ghost use mathlib.Core.List.{_++_};
 ghost use lib.ListN.{length};
 ghost use Rattle.rules.specs.Slices.{writeAt};
 ghost use Rattle.text.specs.Text.{decimal};
-ghost use Rattle.report.specs.Lines.{refusedLine, fileLine, startLine, verdictWord, verdictLine, modeWord, rowWord, stepLine};
-ghost use Rattle.report.specs.Pages.{stepLines};
-use checker::Question;
-use checker::Verdict;
+ghost use Rattle.lines.specs.Lines.{refusedLine, fileLine, startLine, verdictWord, verdictLine, modeWord, rowWord, stepLine, stepLines};
 use rules::Mode;
 use rules::Row;
-use tables::Refusal;
 use text::put;
 use text::put_decimal;
 
 // Words and a number.
-pub(crate) fn put_field(out: &mut [u8], at: usize, words: &[u8], n: usize) -> usize
+fn put_field(out: &mut [u8], at: usize, words: &[u8], n: usize) -> usize
     requires { ⌜ at + length (now words ++ decimal n) < 2 ^ 64 ⌝ }
     ensures place { λ r. ⌜ r ≡ at + length (now (words .entry) ++ decimal n) ⌝ }
     ensures bytes { λ r. ⌜ now (out .exit) ≡ writeAt at (now (words .entry) ++ decimal n) (now (out .entry)) ⌝ }
@@ -25,17 +22,17 @@ pub(crate) fn put_field(out: &mut [u8], at: usize, words: &[u8], n: usize) -> us
     put_decimal(out, at, n)
 }
 
-pub(crate) fn put_refused(out: &mut [u8], at: usize, refusal: Refusal) -> usize
-    requires { ⌜ at + length (refusedLine refusal) < 2 ^ 64 ⌝ }
-    ensures place { λ r. ⌜ r ≡ at + length (refusedLine refusal) ⌝ }
-    ensures bytes { λ r. ⌜ now (out .exit) ≡ writeAt at (refusedLine refusal) (now (out .entry)) ⌝ }
+pub fn put_refused(out: &mut [u8], at: usize, number: usize, place: usize) -> usize
+    requires { ⌜ at + length (refusedLine number place) < 2 ^ 64 ⌝ }
+    ensures place { λ r. ⌜ r ≡ at + length (refusedLine number place) ⌝ }
+    ensures bytes { λ r. ⌜ now (out .exit) ≡ writeAt at (refusedLine number place) (now (out .entry)) ⌝ }
 {
-    let at = put_field(out, at, b"refused ", refusal.number as usize);
-    let at = put_field(out, at, b" at ", refusal.place);
+    let at = put_field(out, at, b"refused ", number);
+    let at = put_field(out, at, b" at ", place);
     put(out, at, b"\n")
 }
 
-pub(crate) fn put_file(out: &mut [u8], at: usize, bytes: usize, tables: usize) -> usize
+pub fn put_file(out: &mut [u8], at: usize, bytes: usize, tables: usize) -> usize
     requires { ⌜ at + length (fileLine bytes tables) < 2 ^ 64 ⌝ }
     ensures place { λ r. ⌜ r ≡ at + length (fileLine bytes tables) ⌝ }
     ensures bytes { λ r. ⌜ now (out .exit) ≡ writeAt at (fileLine bytes tables) (now (out .entry)) ⌝ }
@@ -45,15 +42,22 @@ pub(crate) fn put_file(out: &mut [u8], at: usize, bytes: usize, tables: usize) -
     put(out, at, b" tables\n")
 }
 
-pub(crate) fn put_start(out: &mut [u8], at: usize, question: Question) -> usize
-    requires { ⌜ at + length (startLine question) < 2 ^ 64 ⌝ }
-    ensures place { λ r. ⌜ r ≡ at + length (startLine question) ⌝ }
-    ensures bytes { λ r. ⌜ now (out .exit) ≡ writeAt at (startLine question) (now (out .entry)) ⌝ }
+pub fn put_start(
+    out: &mut [u8],
+    at: usize,
+    demand: usize,
+    supply: usize,
+    t: usize,
+    s: usize,
+) -> usize
+    requires { ⌜ at + length (startLine demand supply t s) < 2 ^ 64 ⌝ }
+    ensures place { λ r. ⌜ r ≡ at + length (startLine demand supply t s) ⌝ }
+    ensures bytes { λ r. ⌜ now (out .exit) ≡ writeAt at (startLine demand supply t s) (now (out .entry)) ⌝ }
 {
-    let at = put_field(out, at, b"demand ", question.demand.table);
-    let at = put_field(out, at, b" supply ", question.supply.table);
-    let at = put_field(out, at, b" start ", question.demand.state);
-    let at = put_field(out, at, b" ", question.supply.state);
+    let at = put_field(out, at, b"demand ", demand);
+    let at = put_field(out, at, b" supply ", supply);
+    let at = put_field(out, at, b" start ", t);
+    let at = put_field(out, at, b" ", s);
     put(out, at, b"\n")
 }
 
@@ -80,15 +84,22 @@ fn put_verdict_word(out: &mut [u8], at: usize, yes: bool) -> usize
     }
 }
 
-pub(crate) fn put_verdict(out: &mut [u8], at: usize, mode: Mode, verdict: Verdict) -> usize
-    requires { ⌜ at + length (verdictLine mode (verdict .yes) (verdict .rounds) (verdict .kept)) < 2 ^ 64 ⌝ }
-    ensures place { λ r. ⌜ r ≡ at + length (verdictLine mode (verdict .yes) (verdict .rounds) (verdict .kept)) ⌝ }
-    ensures bytes { λ r. ⌜ now (out .exit) ≡ writeAt at (verdictLine mode (verdict .yes) (verdict .rounds) (verdict .kept)) (now (out .entry)) ⌝ }
+pub fn put_verdict(
+    out: &mut [u8],
+    at: usize,
+    mode: Mode,
+    yes: bool,
+    rounds: u16,
+    kept: u16,
+) -> usize
+    requires { ⌜ at + length (verdictLine mode yes rounds kept) < 2 ^ 64 ⌝ }
+    ensures place { λ r. ⌜ r ≡ at + length (verdictLine mode yes rounds kept) ⌝ }
+    ensures bytes { λ r. ⌜ now (out .exit) ≡ writeAt at (verdictLine mode yes rounds kept) (now (out .entry)) ⌝ }
 {
     let at = put_mode_word(out, at, mode);
-    let at = put_verdict_word(out, at, verdict.yes);
-    let at = put_field(out, at, b" rounds ", verdict.rounds as usize);
-    let at = put_field(out, at, b" kept ", verdict.kept as usize);
+    let at = put_verdict_word(out, at, yes);
+    let at = put_field(out, at, b" rounds ", rounds as usize);
+    let at = put_field(out, at, b" kept ", kept as usize);
     put(out, at, b"\n")
 }
 
@@ -120,7 +131,7 @@ fn put_step(out: &mut [u8], at: usize, supply: u16, task: u16) -> usize
 }
 
 // The steps of a run, supply row and task row of each.
-pub(crate) fn put_steps(out: &mut [u8], at: usize, steps: &[u16]) -> usize
+pub fn put_steps(out: &mut [u8], at: usize, steps: &[u16]) -> usize
     requires { ⌜ at + length (stepLines (now steps)) < 2 ^ 64 ⌝ }
     ensures place { λ r. ⌜ r ≡ at + length (stepLines (now (steps .entry))) ⌝ }
     ensures bytes { λ r. ⌜ now (out .exit) ≡ writeAt at (stepLines (now (steps .entry))) (now (out .entry)) ⌝ }

@@ -1,12 +1,12 @@
--- `report::lines::put_steps` meets its contract. The invariant: the lines still to come, written to the buffer as it is, give all lines written.
+-- `lines::put_steps` meets its contract. The invariant: the lines still to come, written to the buffer as it is, give all lines written.
 use Prim.Native.Nat.{_-_}
 use mathlib.Core.Path.{ap, _∙_}
 use native.Mathlib.Omega.{arith}
 use lib.ListN.{length}
 use Rattle.rules.proofs.SliceLaws.{length-writeAt}
-use Rattle.report.proofs.StepsLaws.{StepsAhead, steps-none, steps-room, steps-next, steps-all}
-use Rattle.report.proofs.lines.put_steps.Statement.{statement}
-use Rattle.report.proofs.lines.put_steps.Tie as tie
+use Rattle.lines.proofs.StepsLaws.{StepsAhead, steps-none, steps-room, steps-next, steps-all}
+use Rattle.lines.proofs.put_steps.Statement.{statement}
+use Rattle.lines.proofs.put_steps.Tie as tie
 
 abbrev Inv-loop : tie.InvT-loop
 Inv-loop out₀ at steps place₀ i₀ i-end out place i = StepsAhead at steps out₀ place i out

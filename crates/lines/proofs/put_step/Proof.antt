@@ -1,11 +1,11 @@
--- `report::lines::put_step` meets its contract. Its pieces are written one after the other.
+-- `lines::put_step` meets its contract. Its pieces are written one after the other.
 use native.Mathlib.Omega.{arith}
 use Rattle.text.proofs.TextLaws.{put-both}
-use Rattle.report.specs.Lines.{stepLine}
-use Rattle.report.proofs.LineLaws.{length-step}
+use Rattle.lines.specs.Lines.{stepLine}
+use Rattle.lines.proofs.LineLaws.{length-step}
 use borrow.Author.Needs.{needs}
-use Rattle.report.proofs.lines.put_step.Statement.{statement}
-use Rattle.report.proofs.lines.put_step.Tie as tie
+use Rattle.lines.proofs.put_step.Statement.{statement}
+use Rattle.lines.proofs.put_step.Tie as tie
 
 slice-aggregate-put : tie.Need-slice-aggregate-put
 slice-aggregate-put c = search needs

@@ -1,12 +1,12 @@
--- `report::lines::put_verdict_word` meets its contract. Each answer has its word.
+-- `lines::put_verdict_word` meets its contract. Each answer has its word.
 use mathlib.Core.Path.{ap}
 use mathlib.Core.Bool.{Bool}
 use native.Mathlib.Omega.{arith}
 use lib.ListN.{length}
-use Rattle.report.specs.Lines.{verdictWord}
+use Rattle.lines.specs.Lines.{verdictWord}
 use borrow.Author.Needs.{needs}
-use Rattle.report.proofs.lines.put_verdict_word.Statement.{statement}
-use Rattle.report.proofs.lines.put_verdict_word.Tie as tie
+use Rattle.lines.proofs.put_verdict_word.Statement.{statement}
+use Rattle.lines.proofs.put_verdict_word.Tie as tie
 
 slice-aggregate-put : tie.Need-slice-aggregate-put
 slice-aggregate-put c = search needs

@@ -1,12 +1,12 @@
--- `report::lines::put_mode_word` meets its contract. Each mode has its word.
+-- `lines::put_mode_word` meets its contract. Each mode has its word.
 use mathlib.Core.Path.{ap}
 use native.Mathlib.Omega.{arith}
 use lib.ListN.{length}
 use Rattle.rules.specs.declared.Mode.{Mode}
-use Rattle.report.specs.Lines.{modeWord}
+use Rattle.lines.specs.Lines.{modeWord}
 use borrow.Author.Needs.{needs}
-use Rattle.report.proofs.lines.put_mode_word.Statement.{statement}
-use Rattle.report.proofs.lines.put_mode_word.Tie as tie
+use Rattle.lines.proofs.put_mode_word.Statement.{statement}
+use Rattle.lines.proofs.put_mode_word.Tie as tie
 
 enum-told : tie.Need-enum-told
 enum-told c = search needs
