@@ -1,7 +1,6 @@
 // Each call, and its answer: what it returns, and what the lent slices hold after it.
 use crate::input;
 use crate::lent;
-use crate::output;
 use checker::Counted;
 use checker::Decided;
 use checker::Joined;
@@ -10,30 +9,51 @@ use rules::Limits;
 use rules::Row;
 use tables::Entry;
 use tables::Opened;
+use tables::Refusal;
+
+// A number of the first line in 16 bits. None is larger: files and slices are shorter than 65,536.
+fn short(n: usize) -> u16 {
+    if n < 65536 {
+        return n as u16;
+    }
+    65535
+}
+
+// The first line of a call that is carried out.
+fn tell_values(first: usize, second: usize, third: usize) {
+    let line = [0, 0, short(first), short(second), short(third)];
+    output::entries(&line);
+}
+
+// The first line of a call that is turned back.
+fn tell_refusal(refusal: Refusal) {
+    let line = [refusal.number as u16, short(refusal.place), 0, 0, 0];
+    output::entries(&line);
+}
 
 pub(crate) fn open(asked: &[u8]) {
     let found = tables::open(input::file(asked));
     match found {
-        Opened::Tables(k) => output::returned(k, 0, 0),
-        Opened::Refused(refusal) => output::refused(refusal),
+        Opened::Tables(k) => tell_values(k, 0, 0),
+        Opened::Refused(refusal) => tell_refusal(refusal),
     }
 }
 
 pub(crate) fn body(asked: &[u8]) {
     let table = input::number(asked, 2);
-    output::refused(tables::body_refusal(input::file(asked), table));
+    tell_refusal(tables::body_refusal(input::file(asked), table));
     output::bytes(tables::body(input::file(asked), table));
 }
 
 fn tell_count(found: Counted) {
     match found {
-        Counted::Count(count) => output::returned(count, 0, 0),
-        Counted::Refused(refusal) => output::refused(refusal),
+        Counted::Count(count) => tell_values(count, 0, 0),
+        Counted::Refused(refusal) => tell_refusal(refusal),
     }
 }
 
 fn tell_verdict(found: Verdict) {
-    output::returned(
+    tell_values(
         found.yes as usize,
         found.kept as usize,
         found.rounds as usize,
@@ -43,7 +63,7 @@ fn tell_verdict(found: Verdict) {
 fn tell_decision(found: Decided) {
     match found {
         Decided::Answered(verdict) => tell_verdict(verdict),
-        Decided::Refused(refusal) => output::refused(refusal),
+        Decided::Refused(refusal) => tell_refusal(refusal),
     }
 }
 
@@ -70,8 +90,8 @@ pub(crate) fn on_entries(asked: &[u8], first: &mut [u16], second: &mut [u16]) {
 
 fn tell_join(found: Joined) {
     match found {
-        Joined::Table(size) => output::returned(size.states, size.rows, 0),
-        Joined::Refused(refusal) => output::refused(refusal),
+        Joined::Table(size) => tell_values(size.states, size.rows, 0),
+        Joined::Refused(refusal) => tell_refusal(refusal),
     }
 }
 

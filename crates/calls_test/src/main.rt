@@ -1,5 +1,6 @@
 // Reads questions from standard input until its end, makes the call that each of them names, and writes what it answers and what the lent slices hold
-// afterwards. The case files and the comparison below `tests` ask it many questions in one run. Relies on `tables`, `checker` and `report`.
+// afterwards. The case files and the comparison below `tests` ask it many questions in one run. Relies on `tables`, `checker` and
+// `report` for the calls, on `rules` for its constants, and on `output` for the lines of an answer.
 //
 // A question is its length, then a head of eight numbers, then a file; the length is that of the head and the file. Numbers have 8 bytes and are
 // little-endian. The head:
@@ -15,7 +16,6 @@
 mod calls;
 mod input;
 mod lent;
-mod output;
 
 // The longest question.
 const LONGEST: usize = 65535;

@@ -1,9 +1,9 @@
--- `calls_test::output::put_item` is safe and ends. A number has at most 20 digits.
+-- `output::put_item` is safe and ends. A number has at most 20 digits.
 use native.Mathlib.Omega.{arith}
 use Rattle.text.proofs.TextLaws.{length-decimal}
 use borrow.Author.Needs.{needs}
-use Rattle.calls_test.proofs.output.put_item.Statement.{statement}
-use Rattle.calls_test.proofs.output.put_item.Tie as tie
+use Rattle.output.proofs.put_item.Statement.{statement}
+use Rattle.output.proofs.put_item.Tie as tie
 
 place-requires : tie.Need-place-requires
 place-requires c κs = search needs

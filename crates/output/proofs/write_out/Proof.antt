@@ -1,9 +1,9 @@
--- `calls_test::output::write_out` is safe and ends. The part that is written out has the length asked for.
+-- `output::write_out` is safe and ends. The part that is written out has the length asked for.
 use mathlib.Core.Path.{sym}
 use lib.Seq.{length-take-le}
 use borrow.Author.Needs.{needs}
-use Rattle.calls_test.proofs.output.write_out.Statement.{statement}
-use Rattle.calls_test.proofs.output.write_out.Tie as tie
+use Rattle.output.proofs.write_out.Statement.{statement}
+use Rattle.output.proofs.write_out.Tie as tie
 
 slice-aggregate-write-all : tie.Need-slice-aggregate-write-all
 slice-aggregate-write-all c = sym (length-take-le _ _ (c .before .if1 .taken))

@@ -1,6 +1,7 @@
-// The lines of an answer. A line is put together in a buffer, which is written out where it is nearly full and at the line's end.
+// Lines of decimal numbers on standard output, for a program that answers questions. A line is put together in a buffer, which is written out where it
+// is nearly full and at the line's end. Nothing is returned and nothing is changed; what is written no contract states, and the case files hold it.
+// Relies on `text` for numbers, and on `io`.
 ghost use Prim.Native.Nat.{_<_};
-use tables::Refusal;
 
 const BUFFER: usize = 8192;
 
@@ -50,7 +51,7 @@ fn end_line(out: &mut [u8], at: usize) {
     }
 }
 
-pub(crate) fn entries(slice: &[u16]) {
+pub fn entries(slice: &[u16]) {
     let mut out = [0u8; BUFFER];
     let mut at: usize = 0;
     for i in 0..slice.len() {
@@ -59,7 +60,7 @@ pub(crate) fn entries(slice: &[u16]) {
     end_line(&mut out, at);
 }
 
-pub(crate) fn bytes(slice: &[u8]) {
+pub fn bytes(slice: &[u8]) {
     let mut out = [0u8; BUFFER];
     let mut at: usize = 0;
     for i in 0..slice.len() {
@@ -68,26 +69,7 @@ pub(crate) fn bytes(slice: &[u8]) {
     end_line(&mut out, at);
 }
 
-// A number of the first line in 16 bits. None is larger: files and slices are shorter than 65,536.
-fn short(n: usize) -> u16 {
-    if n < 65536 {
-        return n as u16;
-    }
-    65535
-}
-
-// The first line of a call that is carried out.
-pub(crate) fn returned(first: usize, second: usize, third: usize) {
-    let line = [0, 0, short(first), short(second), short(third)];
-    entries(&line);
-}
-
-// The first line of a call that is turned back.
-pub(crate) fn refused(refusal: Refusal) {
-    let line = [refusal.number as u16, short(refusal.place), 0, 0, 0];
-    entries(&line);
-}
-
-pub(crate) fn end_answer() {
+// The line that ends an answer.
+pub fn end_answer() {
     io::write_all(1, b".\n");
 }
