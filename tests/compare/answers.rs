@@ -74,7 +74,8 @@ fn only(text: String) -> Answer {
 }
 
 /// The fields of an entry of the contents and of a row of a body, each at its
-/// number in the file; a byte past the end counts as 0.
+/// number in the file, where a byte past the end counts as 0; and the body that
+/// the entry tells of, nothing where the file ends before it does.
 fn readers(question: &Question, file: &[u8]) -> String {
     let bytes = |start: Option<usize>, place: usize| -> u16 {
         let found = start.and_then(|start| start.checked_add(place));
@@ -85,8 +86,11 @@ fn readers(question: &Question, file: &[u8]) -> String {
     let row = index.checked_mul(4);
     let mut text = String::new();
     let two = |start, place| bytes(start, place) + 256 * bytes(start, place + 1);
-    push_line(&mut text, &[bytes(entry, 0), bytes(entry, 1), two(entry, 2), two(entry, 4)]);
+    let (rows, offset) = (two(entry, 2), two(entry, 4));
+    push_line(&mut text, &[bytes(entry, 0), bytes(entry, 1), rows, offset]);
     push_line(&mut text, &[bytes(row, 0), bytes(row, 1), two(row, 2)]);
+    let start = offset as usize;
+    push_line(&mut text, file.get(start..start + 4 * rows as usize).unwrap_or(&[]));
     text
 }
 

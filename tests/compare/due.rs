@@ -99,6 +99,7 @@ impl Due {
         push_line(&mut text, &self.first);
         if question.operation == Operation::Readers {
             push_line(&mut text, &self.second);
+            push_line(&mut text, &self.bytes);
         }
         text
     }

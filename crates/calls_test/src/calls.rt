@@ -130,11 +130,17 @@ fn read_row(asked: &[u8], i: usize) {
     output::entries(&line);
 }
 
-// What the readers of contents entries and of rows find, with the file taken as contents and as a body.
+fn read_body(asked: &[u8], i: usize) {
+    let file = input::file(asked);
+    output::bytes(tables::entry_body(file, tables::entry_at(file, i)));
+}
+
+// What the readers of contents entries and of rows find, with the file taken as contents and as a body, and the body that the entry tells of.
 pub(crate) fn readers(asked: &[u8]) {
     let i = input::number(asked, 2);
     read_entry(asked, i);
     read_row(asked, i);
+    read_body(asked, i);
 }
 
 // The constants, in the order in which the case files name them.
