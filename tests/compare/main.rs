@@ -77,7 +77,7 @@ fn main() -> ExitCode {
             failed += 1;
         }
     }
-    println!("{} cases written by hand, {} made at random", written.len(), arguments.count);
+    println!("{} cases of case files, {} made at random", written.len(), arguments.count);
     println!("{} passed, {failed} failed", written.len() + arguments.count - differences.len());
     if failed > 0 {
         ExitCode::from(1)
