@@ -27,7 +27,7 @@ same-length-2 : tie.Need-same-length-2
 same-length-2 c = search needs
 
 returns-3 : tie.Need-returns-3
-returns-3 c = grows-past (c .before .before .before .before .position .ensures) (c .if3 .taken) (c .before .before .is-at .ensures) (c .before .if2 .left)
+returns-3 c = grows-past (c .before .before .before .before .position .ensures) (c .if3 .taken) (c .before .before .is-at .ensures) (c .before .if2 .left) _ (omega arith)
 
 put-requires : tie.Need-put-requires
 put-requires c κs = search needs
