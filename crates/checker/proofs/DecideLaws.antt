@@ -1,6 +1,6 @@
 -- Laws of Decide: the answer and the slice, by what the checks find. Relies on the laws of questions about a pair and of marks.
 use Prim.Native.Nat.{ℕ, _*_, _≤_, _<_}
-use mathlib.Core.Path.{_≡_, refl, sym, ap, ap₂, _∙_}
+use mathlib.Core.Path.{_≡_, refl, ap, ap₂, _∙_}
 use mathlib.Core.List.{List, [], _∷_}
 use lib.Dec.{eqb}
 use lib.ListN.{length}
@@ -17,7 +17,7 @@ use Rattle.tables.specs.Answers.{answer, carriedOut, sliceAfter}
 use Rattle.tables.proofs.CheckLaws.{passed-fault, then-left, then-both}
 use Rattle.machines.specs.Memory.{statesIn, machineIn}
 use Rattle.marks.specs.declared.Summary.{Summary}
-use Rattle.marks.specs.InPlace.{summaryOf}
+use Rattle.marks.specs.Rounds.{summaryOf}
 use Rattle.marks.proofs.RoundLaws.{has-marks}
 use Rattle.checker.specs.declared.Question.{Question}
 use Rattle.checker.specs.Pairs.{pairChecks, demandOf, supplyOf, pairOf, PairLoaded}

@@ -20,7 +20,7 @@ use Rattle.tables.specs.Checks.{refuse, fault, _then_}
 use Rattle.tables.specs.Answers.{answer, turnedBack, carriedOut, sliceAfter}
 use Rattle.tables.specs.Tables.{tableOf}
 use Rattle.tables.proofs.CheckLaws.{then-left, then-fault, turned-back, passed}
-use Rattle.marks.specs.InPlace.{marksIn}
+use Rattle.marks.specs.Rounds.{marksIn}
 use Rattle.marks.proofs.RoundLaws.{has-marks}
 use Rattle.runs.specs.Walks.{RunStarts, markFrom, stepsFrom}
 use Rattle.checker.specs.declared.Question.{Question}

@@ -1,3 +1,4 @@
 pub mod RangeLaws
 pub mod FillLaws
 pub mod LoadLaws
+pub mod StateLaws

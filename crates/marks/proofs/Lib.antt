@@ -1,2 +1,4 @@
-pub mod PairLaws
+pub mod LeadLaws
+pub mod MoveTestLaws
+pub mod LostLaws
 pub mod RoundLaws

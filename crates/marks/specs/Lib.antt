@@ -1,2 +1,3 @@
 pub mod Responses
-pub mod InPlace
+pub mod Sets
+pub mod Rounds

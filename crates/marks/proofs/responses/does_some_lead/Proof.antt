@@ -1,5 +1,5 @@
 -- `marks::responses::does_some_lead` meets its contract. The position that is found is below the end exactly if some move passes.
-use Rattle.marks.proofs.PairLaws.{some-below}
+use Rattle.marks.proofs.LeadLaws.{some-below}
 use borrow.Author.Needs.{needs}
 use Rattle.marks.proofs.responses.does_some_lead.Statement.{statement}
 use Rattle.marks.proofs.responses.does_some_lead.Tie as tie

@@ -14,30 +14,13 @@ is-struck-by-requires c κs = search needs
 enum-known-wanted-2 : tie.Need-enum-known-wanted-2
 enum-known-wanted-2 c = search needs
 
-is-struck-by-requires-2 : tie.Need-is-struck-by-requires-2
-is-struck-by-requires-2 c κs = search needs
-
-enum-known-wanted-3 : tie.Need-enum-known-wanted-3
-enum-known-wanted-3 c = search needs
-
 returns : tie.Need-returns
-returns c = rw (c .before .before .wanted .given .1) (c .is-struck-by .ensures)
+returns c = rw (c .before .before .wanted .given .1) (ap not (c .is-struck-by .ensures))
 
 returns-2 : tie.Need-returns-2
-returns-2 c = rw (c .before .before .wanted2 .given .1) (ap not (c .is-struck-by2 .ensures))
-
-returns-3 : tie.Need-returns-3
-returns-3 c = rw (c .before .wanted3 .given .1) refl
+returns-2 c = rw (c .before .wanted2 .given .1) refl
 
 pub is-wanted-spec : {M : Type 1} → statement M
 is-wanted-spec =
     tie.close
-    (tie.spec
-    enum-known-wanted
-    is-struck-by-requires
-    enum-known-wanted-2
-    is-struck-by-requires-2
-    enum-known-wanted-3
-    returns
-    returns-2
-    returns-3)
+    (tie.spec enum-known-wanted is-struck-by-requires enum-known-wanted-2 returns returns-2)

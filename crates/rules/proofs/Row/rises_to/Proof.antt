@@ -1,5 +1,5 @@
 -- `rules::Row::rises_to` meets its contract. The first field that differs decides; equal fields leave it to the next.
-use mathlib.Core.Path.{_∙_, ap}
+use mathlib.Core.Path.{_∙_}
 use Rattle.rules.specs.Rows.{rises, before}
 use Rattle.rules.proofs.RowLaws.{before-differ, before-equal}
 use Rattle.rules.proofs.Row.rises_to.Statement.{statement}
