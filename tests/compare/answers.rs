@@ -2,16 +2,28 @@
 //! place, the values returned, and the final contents of what was lent.
 
 use crate::file::{open, refuse, Kind, Refusal, Row, Table, MOST_ROWS, MOST_STATES};
+use crate::graph::{graph, Graph};
 use crate::question::{Operation, Question, HEAD_LENGTH};
 use crate::report::report;
 use crate::rules::{combined_moves, count_kept, join, marks, rounds, run, Mode, Pair, Tables};
 
 /// The expected output of a program, with what is counted of it.
+#[derive(Default)]
 pub struct Answer {
     pub text: String,
     /// 0 for carried out, else the number; nothing where nothing is printed.
     pub number: Option<u16>,
     pub decisions: Vec<Decision>,
+    /// The graph that the output tells of, where there is one.
+    pub graph: Option<Graph>,
+}
+
+impl Answer {
+    /// What a program that prints a text prints in place of it.
+    pub fn refused(refusal: Refusal) -> Answer {
+        let text = format!("refused {} at {}\n", refusal.number, refusal.place);
+        Answer { text, number: Some(refusal.number), ..Answer::default() }
+    }
 }
 
 /// A decision, with the length of the run from its start where one was asked.
@@ -29,20 +41,22 @@ struct Lent {
 }
 
 /// What a call that is carried out returns.
+#[derive(Default)]
 struct Returned {
     values: Vec<usize>,
     part: Vec<u8>,
     decisions: Vec<Decision>,
+    graph: Option<Graph>,
 }
 
 fn returned(values: Vec<usize>) -> Returned {
-    Returned { values, part: Vec::new(), decisions: Vec::new() }
+    Returned { values, ..Returned::default() }
 }
 
 /// What `calls_test` answers to a question.
 pub fn answer(input: &[u8]) -> Answer {
     let Some(question) = Question::read(input) else {
-        return Answer { text: String::new(), number: None, decisions: Vec::new() };
+        return Answer::default();
     };
     match question.operation {
         Operation::Readers => return only(readers(&question, &input[HEAD_LENGTH..])),
@@ -65,12 +79,12 @@ pub fn answer(input: &[u8]) -> Answer {
         }
         _ => push_line(&mut text, &lent.first),
     }
-    Answer { text, number: Some(number), decisions: done.decisions }
+    Answer { text, number: Some(number), decisions: done.decisions, graph: done.graph }
 }
 
 /// An answer that is never turned back.
 fn only(text: String) -> Answer {
-    Answer { text, number: Some(0), decisions: Vec::new() }
+    Answer { text, number: Some(0), ..Answer::default() }
 }
 
 /// The fields of an entry of the contents and of a row of a body, each at its
@@ -134,13 +148,13 @@ pub fn byte_before(i: usize) -> u8 {
     (i % 251) as u8
 }
 
-/// The lent slices as they stand before the call. The bytes lent to Join and
-/// Report are held as numbers here.
+/// The lent slices as they stand before the call. The bytes lent to Join, Report
+/// and Graph are held as numbers here.
 fn lend(question: &Question) -> Lent {
     let numbers = |length: usize| (0..length).map(entry_before).collect();
     let bytes = |length: usize| (0..length).map(|i| byte_before(i) as u16).collect();
     match question.operation {
-        Operation::Join | Operation::Report => {
+        Operation::Join | Operation::Report | Operation::Graph => {
             Lent { first: bytes(question.first_length), second: Vec::new() }
         }
         Operation::Moves | Operation::Decide | Operation::Run => Lent {
@@ -160,6 +174,7 @@ fn call(question: &Question, file: &[u8], lent: &mut Lent) -> Result<Returned, R
         Operation::Decide => call_decide(question, &opened?, lent),
         Operation::Run => call_run(question, &opened?, lent),
         Operation::Join => call_join(question, &opened?, lent),
+        Operation::Graph => call_graph(question, &opened?, lent),
         _ => call_report(file, lent),
     }
 }
@@ -169,7 +184,7 @@ fn call_body(question: &Question, file: &[u8], tables: &[Table]) -> Result<Retur
         None => refuse(11, 0),
         Some(table) => {
             let part = file[table.body.clone()].to_vec();
-            Ok(Returned { values: Vec::new(), part, decisions: Vec::new() })
+            Ok(Returned { part, ..Returned::default() })
         }
     }
 }
@@ -246,7 +261,7 @@ fn call_decide(
     let yes = marks[tables.entry(pair)] == 0;
     let values = vec![yes as usize, count_kept(&marks), rounds(&marks) as usize];
     let decisions = vec![Decision { mode, yes, steps: 0 }];
-    Ok(Returned { values, part: Vec::new(), decisions })
+    Ok(Returned { values, decisions, ..Returned::default() })
 }
 
 fn call_run(question: &Question, tables: &[Table], lent: &mut Lent) -> Result<Returned, Refusal> {
@@ -265,7 +280,7 @@ fn call_run(question: &Question, tables: &[Table], lent: &mut Lent) -> Result<Re
     }
     let yes = marks[tables.entry(pair)] == 0;
     let decisions = vec![Decision { mode, yes, steps: steps.len() }];
-    Ok(Returned { values: vec![steps.len()], part: Vec::new(), decisions })
+    Ok(Returned { values: vec![steps.len()], decisions, ..Returned::default() })
 }
 
 fn call_join(question: &Question, tables: &[Table], lent: &mut Lent) -> Result<Returned, Refusal> {
@@ -296,7 +311,23 @@ fn call_report(file: &[u8], lent: &mut Lent) -> Result<Returned, Refusal> {
     }
     put_bytes(bytes, lent);
     let values = vec![bytes.len()];
-    Ok(Returned { values, part: Vec::new(), decisions: printed.decisions })
+    Ok(Returned { values, decisions: printed.decisions, ..Returned::default() })
+}
+
+fn call_graph(
+    question: &Question,
+    tables: &[Table],
+    lent: &mut Lent,
+) -> Result<Returned, Refusal> {
+    let (tables, start) = tables_and_pair(question, tables)?;
+    let graph = graph(tables, start);
+    let text = graph.text();
+    if lent.first.len() < text.len() {
+        return refuse(14, 0);
+    }
+    put_bytes(text.as_bytes(), lent);
+    let values = vec![text.len()];
+    Ok(Returned { values, graph: Some(graph), ..Returned::default() })
 }
 
 /// Writes bytes at the start of the first slice lent.

@@ -11,16 +11,17 @@ const IGNORED: usize = 99;
 pub struct Asked {
     pub program: Program,
     pub input: Vec<u8>,
-    /// Nothing for a case of `slots`, or where there is no whole question.
+    /// Nothing for a case of `slots` or `aut`, or where there is no whole question.
     pub question: Option<Question>,
 }
 
 /// A question about a file.
 pub fn asked(file: Vec<u8>, mut words: Words) -> Result<Asked, String> {
     let word = words.take()?;
-    if word == "slots" {
+    if word == "slots" || word == "aut" {
         words.end()?;
-        return Ok(Asked { program: Program::Slots, input: file, question: None });
+        let program = if word == "slots" { Program::Slots } else { Program::Aut };
+        return Ok(Asked { program, input: file, question: None });
     }
     if word == "operation" || word == "head" {
         let number = words.number()?;
@@ -67,6 +68,7 @@ fn question_of(word: &str, words: &mut Words) -> Result<Question, String> {
         "moves" => pair_question(Operation::Moves, words),
         "decide" => pair_question(Operation::Decide, words),
         "run" => pair_question(Operation::Run, words),
+        "graph" => pair_question(Operation::Graph, words),
         "join" => {
             let (first_table, second_table) = (words.number()?, words.number()?);
             words.take_this("room")?;
@@ -81,11 +83,11 @@ fn question_of(word: &str, words: &mut Words) -> Result<Question, String> {
     }
 }
 
-/// `[MODE] DEMAND SUPPLY from STATE STATE room ENTRIES [ENTRIES]`, the mode but
-/// for Moves, the second number of entries for Run.
+/// `[MODE] DEMAND SUPPLY from STATE STATE room ENTRIES [ENTRIES]`, the mode for
+/// Decide and Run, the second number of entries for Run.
 fn pair_question(operation: Operation, words: &mut Words) -> Result<Question, String> {
     let mut question = blank(operation);
-    if operation != Operation::Moves {
+    if [Operation::Decide, Operation::Run].contains(&operation) {
         question.mode = match words.peek() {
             "full" | "partial" => (words.take()? == "partial") as usize,
             _ => words.number()?,
@@ -98,6 +100,10 @@ fn pair_question(operation: Operation, words: &mut Words) -> Result<Question, St
     question.supply_state = words.number()?;
     words.take_this("room")?;
     question.first_length = words.number()?;
-    question.second_length = if operation == Operation::Run { words.number()? } else { 0 };
+    question.second_length = match operation {
+        Operation::Run => words.number()?,
+        Operation::Graph => IGNORED,
+        _ => 0,
+    };
     Ok(question)
 }

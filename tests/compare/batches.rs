@@ -1,18 +1,21 @@
 //! Runs a batch of cases: all questions for `calls_test` in one process, and a
-//! process for each case of `slots`.
+//! process for each case of `slots` or `aut`.
 
 use crate::answers::{answer, Answer};
+use crate::aut::read_back;
 use crate::cases::{Case, Program};
-use crate::programs::{answers, questions, run, Ended};
+use crate::graph::printed;
+use crate::programs::{answers, questions, run, written_bytes, Ended};
 use crate::report::report;
 use crate::tally::Tally;
 use crate::written::Written;
 
 const SHOWN_CHARACTERS: usize = 200;
 
-/// The paths of the two programs.
+/// The paths of the programs.
 pub struct Programs {
     pub slots: String,
+    pub aut: String,
     pub calls: String,
 }
 
@@ -43,8 +46,13 @@ impl<'a> Batch<'a> {
             self.judge(&mut outcomes[*at], written, *at, &expected[*at], came);
         }
         for at in 0..self.cases.len() {
-            if self.case(at).program == Program::Slots {
-                let came = self.start_slots(at);
+            let path = match self.case(at).program {
+                Program::Slots => Some(&self.programs.slots),
+                Program::Aut => Some(&self.programs.aut),
+                Program::Calls => None,
+            };
+            if let Some(path) = path {
+                let came = self.start(path, at);
                 self.judge(&mut outcomes[at], written, at, &expected[at], came);
             }
         }
@@ -61,6 +69,7 @@ impl<'a> Batch<'a> {
         for (_, case) in self.cases {
             let answer = match case.program {
                 Program::Slots => report(&case.input),
+                Program::Aut => printed(&case.input),
                 Program::Calls => answer(&case.input),
             };
             tally.count(case.program, &case.input, &answer);
@@ -82,15 +91,34 @@ impl<'a> Batch<'a> {
             Some(found) => found.due.as_bytes(),
             None => expected.text.as_bytes(),
         };
-        let held = came.and_then(|came| compare(due, &came));
+        let held = came.and_then(|came| {
+            let same = compare(due, &came);
+            let read = self.read_back(at, expected, &came);
+            match (same, read) {
+                (Err(same), Err(read)) => Err(format!("{same}\n  {read}")),
+                (same, read) => same.and(read),
+            }
+        });
         if let Err(reason) = held {
             *outcome = Err(format!("the program: {reason}"));
         }
     }
 
-    fn start_slots(&self, at: usize) -> Result<Vec<u8>, String> {
+    /// Reads back the text of a graph that came, where one is due.
+    fn read_back(&self, at: usize, expected: &Answer, came: &[u8]) -> Outcome {
+        let Some(graph) = &expected.graph else {
+            return Ok(());
+        };
+        let read = match self.case(at).program {
+            Program::Calls => written_bytes(came).and_then(|text| read_back(&text, graph)),
+            _ => read_back(came, graph),
+        };
+        read.map_err(|reason| format!("the reader of .aut: {reason}"))
+    }
+
+    fn start(&self, path: &str, at: usize) -> Result<Vec<u8>, String> {
         let case = self.case(at);
-        let (ended, ()) = run(&self.programs.slots, &case.input, case.pieces, || ());
+        let (ended, ()) = run(path, &case.input, case.pieces, || ());
         match ended.fault {
             None => Ok(ended.output),
             Some(fault) => Err(fault),

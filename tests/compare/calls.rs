@@ -1,8 +1,9 @@
 //! Questions for `calls_test`: right ones, ones with faults, ones at the limits
-//! of joining and of the moves of a pair, and reports.
+//! of joining and of the moves of a pair, reports, and graphs.
 
 use crate::drafts::{draft, file_of, table_with_rows, Draft, DEMAND, SUPPLY};
 use crate::file::{open, Kind, Table, MOST_STATES};
+use crate::graph::graph;
 use crate::question::{Operation, Question};
 use crate::random::Random;
 use crate::report::report;
@@ -39,14 +40,18 @@ const ALL_FAULTS: [Fault; 9] = [
 ];
 
 /// Every operation with every fault that makes it turn back, and more: Join gets
-/// wrong states and a wrong mode too, and Moves a wrong mode. This is meant:
-/// they must ignore them.
+/// wrong states and a wrong mode too, and Moves and Graph a wrong mode. This is
+/// meant: they must ignore them.
 pub fn operations_and_faults() -> Vec<(Operation, Fault)> {
     let mut all =
         vec![(Operation::Body, Fault::FirstTable), (Operation::Report, Fault::FirstLength)];
-    for (operation, faults) in
-        [(Operation::Moves, 8), (Operation::Decide, 8), (Operation::Run, 9), (Operation::Join, 8)]
-    {
+    for (operation, faults) in [
+        (Operation::Moves, 8),
+        (Operation::Decide, 8),
+        (Operation::Run, 9),
+        (Operation::Join, 8),
+        (Operation::Graph, 8),
+    ] {
         all.extend(ALL_FAULTS[..faults].iter().map(|fault| (operation, *fault)));
     }
     all
@@ -127,10 +132,10 @@ fn random_state(random: &mut Random, table: Option<&Table>, from_start: bool) ->
 
 fn set_exact_lengths(question: &mut Question, first: &Table, second: &Table) {
     let count_of_pairs = first.states * second.states;
+    let tables = Tables { demand: first, supply: second };
+    let pair = Pair { demand: question.demand_state, supply: question.supply_state };
     match question.operation {
         Operation::Moves => {
-            let tables = Tables { demand: first, supply: second };
-            let pair = Pair { demand: question.demand_state, supply: question.supply_state };
             let count = combined_moves(tables, pair).len();
             question.first_length = (5 * count).min(LONGEST_SLICE);
         }
@@ -144,6 +149,9 @@ fn set_exact_lengths(question: &mut Question, first: &Table, second: &Table) {
                 let count = join(first, second).len();
                 question.first_length = (4 * count).min(LONGEST_SLICE);
             }
+        }
+        Operation::Graph => {
+            question.first_length = graph(tables, pair).text().len().min(LONGEST_SLICE);
         }
         _ => {}
     }

@@ -13,12 +13,14 @@ use crate::faults::{
     damaged_file, faulty_file, limit_file, noise, sound_file, two_faults, FAULTS, LIMITS,
     TWO_FAULTS,
 };
-use crate::question::{Operation, HEAD_LENGTH, OPERATIONS, RANDOM_OPERATIONS};
+use crate::question::{Operation, HEAD_LENGTH, RANDOM_OPERATIONS};
 use crate::random::Random;
+use crate::wide::{wide_graph, WIDE_GRAPHS};
 
 #[derive(Clone, Copy, PartialEq, Eq)]
 pub enum Program {
     Slots,
+    Aut,
     Calls,
 }
 
@@ -48,6 +50,10 @@ fn for_slots(input: Vec<u8>) -> Made {
     Made { program: Program::Slots, input, pieces: 1 }
 }
 
+fn for_aut(input: Vec<u8>) -> Made {
+    Made { program: Program::Aut, input, pieces: 1 }
+}
+
 fn for_calls(input: Vec<u8>) -> Made {
     Made { program: Program::Calls, input, pieces: 1 }
 }
@@ -56,7 +62,7 @@ const fn kind(name: &'static str, often: usize, make: fn(&mut Random, usize) -> 
     Kind { name, often, make }
 }
 
-const ROTATION: [Kind; 26] = [
+const ROTATION: [Kind; 31] = [
     kind("slots, random tables", 3, slots_random),
     kind("slots, cycles and chains", 1, slots_cycles),
     kind("slots, branching tables", 2, slots_branching),
@@ -68,12 +74,16 @@ const ROTATION: [Kind; 26] = [
     kind("slots, random bytes", 1, slots_noise),
     kind("slots, file at a limit", 1, slots_limit),
     kind("slots, long input or pieces", 1, slots_long),
+    kind("aut, random tables", 1, aut_random),
+    kind("aut, tables by a plan", 2, aut_planned),
+    kind("aut, file with faults or at a limit", 1, aut_faulty),
+    kind("aut, long text, long input or pieces", 1, aut_long),
     kind("calls, random tables", 3, calls_random),
     kind("calls, Run on cycles and chains", 1, calls_cycles),
     kind("calls, branching tables", 3, calls_branching),
     kind("calls, odd tables", 1, calls_odd),
     kind("calls, kinds in any order", 1, calls_any_order),
-    kind("calls, file with faults", 4, calls_faulty_file),
+    kind("calls, file with faults", 6, calls_faulty_file),
     kind("calls, two faults in order", 1, calls_two_faults),
     kind("calls, question with faults", 3, calls_faulty_question),
     kind("calls, damaged file or random bytes", 1, calls_damaged),
@@ -82,6 +92,7 @@ const ROTATION: [Kind; 26] = [
     kind("calls, Join at a limit", 1, calls_join_limit),
     kind("calls, very many moves", 1, calls_wide),
     kind("calls, Report", 3, calls_report),
+    kind("calls, Graph", 3, calls_graph),
     kind("calls, no whole question", 1, calls_nothing),
 ];
 
@@ -143,6 +154,12 @@ fn slots_limit(random: &mut Random, turn: usize) -> Made {
 
 /// Inputs around and beyond the longest read, and inputs that come in pieces.
 fn slots_long(random: &mut Random, turn: usize) -> Made {
+    let (input, pieces) = long_input(random, turn);
+    Made { program: Program::Slots, input, pieces }
+}
+
+/// An input of one of 12 sorts, and in how many pieces it comes.
+fn long_input(random: &mut Random, turn: usize) -> (Vec<u8>, usize) {
     let lengths = [32_866, 32_867, 32_868, 40_000, 100_000];
     let (mut input, pieces) = match turn % 12 {
         0..=4 => (file_of(&largest_tables(random)), random.pick(&[1, 3, 9])),
@@ -159,13 +176,52 @@ fn slots_long(random: &mut Random, turn: usize) -> Made {
     };
     let missing = length.saturating_sub(input.len());
     input.extend(random.bytes(missing));
-    Made { program: Program::Slots, input, pieces }
+    (input, pieces)
 }
 
 /// A file and as many pieces as it has bytes.
 fn byte_by_byte(file: Vec<u8>) -> (Vec<u8>, usize) {
     let pieces = file.len();
     (file, pieces)
+}
+
+fn aut_random(random: &mut Random, _: usize) -> Made {
+    for_aut(file_of(&random_tables(random)))
+}
+
+fn aut_planned(random: &mut Random, turn: usize) -> Made {
+    let tables = match turn % 5 {
+        0 => odd_tables(random),
+        1 => tables_in_any_order(random),
+        2 => cycles_or_chain(random, turn / 5),
+        _ => branching(random),
+    };
+    for_aut(file_of(&tables))
+}
+
+fn aut_faulty(random: &mut Random, turn: usize) -> Made {
+    let round = turn / 5;
+    let file = match turn % 5 {
+        0 => faulty_file(random, round % FAULTS, round < FAULTS),
+        1 => two_faults(random, round % TWO_FAULTS),
+        2 => damaged_file(random),
+        3 => noise(random),
+        _ => limit_file(random, round % LIMITS),
+    };
+    for_aut(file)
+}
+
+/// Of 64 cases one has a text around the longest, and four have an input that is
+/// long or comes in pieces.
+fn aut_long(random: &mut Random, turn: usize) -> Made {
+    if turn % 64 == 0 {
+        return for_aut(wide_graph(random, turn / 64 % WIDE_GRAPHS));
+    }
+    if turn % 16 == 8 {
+        let (input, pieces) = long_input(random, turn / 16);
+        return Made { program: Program::Aut, input, pieces };
+    }
+    for_aut(sound_file(random))
 }
 
 fn calls_random(random: &mut Random, turn: usize) -> Made {
@@ -201,12 +257,12 @@ fn calls_odd(random: &mut Random, turn: usize) -> Made {
 }
 
 fn any_operation(random: &mut Random) -> Operation {
-    random.pick(&OPERATIONS[..RANDOM_OPERATIONS])
+    random.pick(&RANDOM_OPERATIONS)
 }
 
 /// The operations in turn.
 fn operation_at(turn: usize) -> Operation {
-    OPERATIONS[turn % RANDOM_OPERATIONS]
+    RANDOM_OPERATIONS[turn % RANDOM_OPERATIONS.len()]
 }
 
 fn calls_any_order(random: &mut Random, turn: usize) -> Made {
@@ -215,8 +271,8 @@ fn calls_any_order(random: &mut Random, turn: usize) -> Made {
 }
 
 fn calls_faulty_file(random: &mut Random, turn: usize) -> Made {
-    let fault = turn / RANDOM_OPERATIONS % FAULTS;
-    let alone = turn < RANDOM_OPERATIONS * FAULTS;
+    let fault = turn / RANDOM_OPERATIONS.len() % FAULTS;
+    let alone = turn < RANDOM_OPERATIONS.len() * FAULTS;
     let file = faulty_file(random, fault, alone);
     for_calls(likely_question(random, &file, operation_at(turn)).before(&file))
 }
@@ -296,7 +352,18 @@ fn calls_report(random: &mut Random, turn: usize) -> Made {
     for_calls(report_question(random, &file, round % REPORT_LENGTHS).before(&file))
 }
 
-/// Questions shorter than a head, and operations above 8; also whole ones that
+fn calls_graph(random: &mut Random, turn: usize) -> Made {
+    let tables = match turn % 6 {
+        0 | 3 => random_tables(random),
+        1 | 4 => branching(random),
+        2 => odd_tables(random),
+        _ => tables_in_any_order(random),
+    };
+    let file = file_of(&tables);
+    for_calls(likely_question(random, &file, Operation::Graph).before(&file))
+}
+
+/// Questions shorter than a head, and operations above 9; also whole ones that
 /// come in pieces.
 fn calls_nothing(random: &mut Random, turn: usize) -> Made {
     let file = sound_file(random);
@@ -314,5 +381,5 @@ fn calls_nothing(random: &mut Random, turn: usize) -> Made {
 }
 
 fn unknown_operation(random: &mut Random) -> u64 {
-    random.pick(&[9, 10, 255, 256, 1 << 32, u64::MAX])
+    random.pick(&[10, 11, 255, 256, 1 << 32, u64::MAX])
 }

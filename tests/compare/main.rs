@@ -1,13 +1,14 @@
-//! Holds the programs `slots` and `calls_test` to the answers that the case files
-//! say are due, and compares them with a separately written checker, which is a
-//! direct reading of the paper, on those cases and on random ones.
+//! Holds the programs `slots`, `aut` and `calls_test` to the answers that the case
+//! files say are due, and compares them with a separately written checker, which
+//! is a direct reading of the papers, on those cases and on random ones.
 //!
-//! Called as `compare SLOTS CALLS_TEST CASES COUNT`: the paths of the two
+//! Called as `compare SLOTS AUT CALLS_TEST CASES COUNT`: the paths of the three
 //! programs, the folder of the case files, and how many random cases to run. The
 //! same count always gives the same cases. `tests/run` builds and calls it.
 
 mod answers;
 mod asked;
+mod aut;
 mod batches;
 mod calls;
 mod cases;
@@ -15,12 +16,14 @@ mod drafts;
 mod due;
 mod faults;
 mod file;
+mod graph;
 mod programs;
 mod question;
 mod random;
 mod report;
 mod rules;
 mod tally;
+mod wide;
 mod words;
 mod written;
 
@@ -57,7 +60,7 @@ pub struct Difference {
 
 fn main() -> ExitCode {
     let Some(arguments) = read_arguments() else {
-        eprintln!("called as: compare SLOTS CALLS_TEST CASES COUNT");
+        eprintln!("called as: compare SLOTS AUT CALLS_TEST CASES COUNT");
         return ExitCode::from(2);
     };
     let written = match written::read_folder(&arguments.folder) {
@@ -88,11 +91,11 @@ fn main() -> ExitCode {
 
 fn read_arguments() -> Option<Arguments> {
     let words: Vec<String> = std::env::args().skip(1).collect();
-    let [slots, calls, folder, count] = &words[..] else {
+    let [slots, aut, calls, folder, count] = &words[..] else {
         return None;
     };
     Some(Arguments {
-        programs: Programs { slots: slots.clone(), calls: calls.clone() },
+        programs: Programs { slots: slots.clone(), aut: aut.clone(), calls: calls.clone() },
         folder: PathBuf::from(folder),
         count: count.parse().ok()?,
     })
@@ -175,6 +178,7 @@ fn show(differences: &[Difference]) {
 fn save(folder: &Path, difference: &Difference) -> std::io::Result<PathBuf> {
     let (program, input) = match difference.case.program {
         cases::Program::Slots => ("slots", difference.case.input.clone()),
+        cases::Program::Aut => ("aut", difference.case.input.clone()),
         cases::Program::Calls => ("calls_test", programs::questions(&[&difference.case.input])),
     };
     std::fs::create_dir_all(folder)?;

@@ -106,3 +106,18 @@ pub fn answers(output: &[u8]) -> Vec<&[u8]> {
     }
     all
 }
+
+/// The bytes that a call wrote into a slice of bytes, by an answer of `calls_test`:
+/// as many of its second line as the third number of its first line says.
+pub fn written_bytes(answer: &[u8]) -> Result<Vec<u8>, String> {
+    let text = String::from_utf8_lossy(answer);
+    let mut lines = text.lines();
+    let (first, second) = (lines.next().unwrap_or(""), lines.next().unwrap_or(""));
+    let length = first.split(' ').nth(2).and_then(|word| word.parse::<usize>().ok());
+    let length = length.ok_or("the first line has no length")?;
+    let bytes: Result<Vec<u8>, _> = second.split(' ').take(length).map(str::parse).collect();
+    match bytes {
+        Ok(bytes) if bytes.len() == length => Ok(bytes),
+        _ => Err(format!("the second line does not have {length} bytes")),
+    }
+}

@@ -14,10 +14,11 @@ pub enum Operation {
     Report,
     Readers,
     Constants,
+    Graph,
 }
 
 /// All operations, each at its number.
-pub const OPERATIONS: [Operation; 9] = [
+pub const OPERATIONS: [Operation; 10] = [
     Operation::Open,
     Operation::Body,
     Operation::Moves,
@@ -27,10 +28,20 @@ pub const OPERATIONS: [Operation; 9] = [
     Operation::Report,
     Operation::Readers,
     Operation::Constants,
+    Operation::Graph,
 ];
 
-/// How many of them, from the first on, random cases ask for.
-pub const RANDOM_OPERATIONS: usize = 7;
+/// Those that random cases ask for.
+pub const RANDOM_OPERATIONS: [Operation; 8] = [
+    Operation::Open,
+    Operation::Body,
+    Operation::Moves,
+    Operation::Decide,
+    Operation::Run,
+    Operation::Join,
+    Operation::Report,
+    Operation::Graph,
+];
 
 #[derive(Clone, Copy)]
 pub struct Question {

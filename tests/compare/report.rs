@@ -9,11 +9,7 @@ use crate::rules::{
 /// What `slots` prints for an input.
 pub fn report(input: &[u8]) -> Answer {
     let file = &input[..input.len().min(LONGEST_READ)];
-    report_file(file).unwrap_or_else(|refusal| Answer {
-        text: format!("refused {} at {}\n", refusal.number, refusal.place),
-        number: Some(refusal.number),
-        decisions: Vec::new(),
-    })
+    report_file(file).unwrap_or_else(Answer::refused)
 }
 
 fn report_file(file: &[u8]) -> Result<Answer, Refusal> {
@@ -31,11 +27,11 @@ fn report_file(file: &[u8]) -> Result<Answer, Refusal> {
         text += &lines;
         decisions.push(decision);
     }
-    Ok(Answer { text, number: Some(0), decisions })
+    Ok(Answer { text, number: Some(0), decisions, graph: None })
 }
 
 /// The number of the first table of a kind; a missing kind is 12 at 0.
-fn first_of_kind(tables: &[Table], kind: Kind) -> Result<usize, Refusal> {
+pub fn first_of_kind(tables: &[Table], kind: Kind) -> Result<usize, Refusal> {
     match tables.iter().position(|table| table.kind == kind) {
         Some(number) => Ok(number),
         None => refuse(12, 0),
@@ -43,7 +39,7 @@ fn first_of_kind(tables: &[Table], kind: Kind) -> Result<usize, Refusal> {
 }
 
 /// State 1, or FIN where there is no other.
-fn start_of(table: &Table) -> usize {
+pub fn start_of(table: &Table) -> usize {
     if table.states == 1 {
         FIN
     } else {

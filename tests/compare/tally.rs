@@ -5,13 +5,16 @@ use crate::cases::Program;
 use crate::question::Question;
 use crate::rules::Mode;
 
-const COLUMNS: [&str; 10] = [
-    "slots", "Open", "Body", "Moves", "Decide", "Run", "Join", "Report", "Readers", "Constants",
+const COLUMNS: [&str; 12] = [
+    "slots", "aut", "Open", "Body", "Moves", "Decide", "Run", "Join", "Report", "Readers",
+    "Constants", "Graph",
 ];
 const NUMBERS: usize = 18;
 const VERDICTS: [&str; 3] = ["full yes", "full no with partial yes", "partial no"];
 /// Some run must have so many steps or more.
 const LONG_RUN: usize = 3_906;
+/// Some text of `aut` must have so many bytes or more.
+const LONG_TEXT: usize = 65_536;
 
 pub struct Tally {
     answers: [[usize; COLUMNS.len()]; NUMBERS],
@@ -21,6 +24,7 @@ pub struct Tally {
     partial_yes: usize,
     partial_no: usize,
     longest_run: usize,
+    longest_text: usize,
     verdicts_of_slots: [usize; VERDICTS.len()],
 }
 
@@ -34,6 +38,7 @@ impl Tally {
             partial_yes: 0,
             partial_no: 0,
             longest_run: 0,
+            longest_text: 0,
             verdicts_of_slots: [0; VERDICTS.len()],
         }
     }
@@ -41,7 +46,8 @@ impl Tally {
     pub fn count(&mut self, program: Program, input: &[u8], answer: &Answer) {
         let column = match program {
             Program::Slots => Some(0),
-            Program::Calls => Question::read(input).map(|question| 1 + question.operation as usize),
+            Program::Aut => Some(1),
+            Program::Calls => Question::read(input).map(|question| 2 + question.operation as usize),
         };
         match (column, answer.number) {
             (Some(column), Some(number)) => self.answers[number as usize][column] += 1,
@@ -49,6 +55,9 @@ impl Tally {
         }
         for decision in &answer.decisions {
             self.count_decision(decision);
+        }
+        if program == Program::Aut {
+            self.longest_text = self.longest_text.max(answer.text.len());
         }
         if let (Program::Slots, [full, partial]) = (program, &answer.decisions[..]) {
             self.verdicts_of_slots[!full.yes as usize + !partial.yes as usize] += 1;
@@ -82,6 +91,7 @@ impl Tally {
         self.partial_yes += other.partial_yes;
         self.partial_no += other.partial_no;
         self.longest_run = self.longest_run.max(other.longest_run);
+        self.longest_text = self.longest_text.max(other.longest_text);
     }
 
     pub fn print(&self) {
@@ -111,10 +121,11 @@ impl Tally {
             .collect();
         println!("slots: {}", words.join(", "));
         println!("longest run: {} steps", self.longest_run);
+        println!("longest text of aut: {} bytes", self.longest_text);
     }
 
     /// What no case hit, as sentences: numbers of the calls, verdicts of `slots`,
-    /// a long run.
+    /// a long run, a long text.
     pub fn missing(&self) -> Vec<String> {
         let mut sentences = Vec::new();
         for number in 0..NUMBERS {
@@ -132,6 +143,9 @@ impl Tally {
         if self.longest_run < LONG_RUN {
             sentences.push(format!("no run had {LONG_RUN} steps or more"));
         }
+        if self.longest_text < LONG_TEXT {
+            sentences.push(format!("no text of aut had {LONG_TEXT} bytes or more"));
+        }
         sentences
     }
 }
@@ -140,9 +154,10 @@ impl Tally {
 fn can_answer(column: usize, number: usize) -> bool {
     match COLUMNS[column] {
         "slots" => number <= 10 || number == 12,
+        "aut" => number <= 10 || number == 12 || number == 14,
         "Open" => number <= 10,
         "Body" => number <= 11,
-        "Moves" => number <= 14,
+        "Moves" | "Graph" => number <= 14,
         "Join" => number <= 12 || [14, 16, 17].contains(&number),
         "Report" => number == 0 || number == 14,
         "Readers" | "Constants" => number == 0,

@@ -81,7 +81,8 @@ impl Words {
     }
 
     /// Rows up to the line's end: `1 to 0 {0}`, or `1 to 0 counting 512` for the
-    /// sets 0, 1, .. 511, or `1 to 0 counting 18 by 256` for 0, 256, .. 4352.
+    /// sets 0, 1, .. 511, or `1 to 0 counting 18 by 256` for 0, 256, .. 4352, or
+    /// `1 to 0 counting 3 from 8` for 8, 9, 10.
     pub fn rows(&mut self) -> Result<Vec<Row>, String> {
         let mut rows = Vec::new();
         while !self.at_end() {
@@ -90,8 +91,10 @@ impl Words {
             let target = self.byte()?;
             if self.take_if("counting") {
                 let count = self.short()?;
+                let first = if self.take_if("from") { self.short()? } else { 0 };
                 let step = if self.take_if("by") { self.short()? } else { 1 };
-                rows.extend((0..count).map(|index| Row { from, set: index * step, target }));
+                let row = |index| Row { from, set: first + index * step, target };
+                rows.extend((0..count).map(row));
             } else {
                 rows.push(Row { from, set: self.set()?, target });
             }

@@ -7,6 +7,7 @@ use crate::cases::{Case, Program};
 use crate::drafts::{file_of, Draft, DEMAND, SUPPLY};
 use crate::due::{due_of, Due};
 use crate::file::open;
+use crate::graph::printed;
 use crate::rules::join;
 use crate::words::Words;
 use std::collections::HashMap;
@@ -133,6 +134,7 @@ impl CaseFile {
             "ask" => self.ask(number, line.strip_prefix("ask").unwrap_or("")),
             "due" => self.start_due(words),
             "joined" if self.open.is_some() => self.add_joined(words),
+            "graph" if self.open.is_some() => self.add_graph(words),
             _ if self.open.is_some() => self.due()?.add(&mut words),
             _ => self.add_content(words),
         }
@@ -237,6 +239,24 @@ impl CaseFile {
         let bytes: Vec<u8> = rows.iter().flat_map(body_form).collect();
         if digest_of(&bytes) != digest {
             return Err(format!("the digest of these rows is {}", digest_of(&bytes)));
+        }
+        self.due()?.bytes.extend(bytes);
+        Ok(())
+    }
+
+    /// `graph FILE digest NUMBER` in an answer: the text that `aut` prints for a
+    /// file, which must have this digest.
+    fn add_graph(&mut self, mut words: Words) -> Result<(), String> {
+        words.take_this("graph")?;
+        let name = words.take()?;
+        words.take_this("digest")?;
+        let digest = words.number()?;
+        words.end()?;
+        let file = self.files.get(&name).ok_or(format!("no file {name}"))?;
+        let bytes = printed(file).text.into_bytes();
+        if digest_of(&bytes) != digest {
+            let length = bytes.len();
+            return Err(format!("the digest of these {length} bytes is {}", digest_of(&bytes)));
         }
         self.due()?.bytes.extend(bytes);
         Ok(())

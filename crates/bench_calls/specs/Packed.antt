@@ -2,7 +2,7 @@
 use Prim.Native.Nat.{ℕ, _+_, _*_, _^_}
 use lib.ListN.{getD}
 use Rattle.tables.specs.Answers.{Answer}
-use Rattle.checker.specs.declared.Question.{Question}
+use Rattle.questions.specs.declared.Question.{Question}
 
 -- the same state of a demand and of a supply table
 abbrev pub asked : ℕ → ℕ → ℕ → Question

@@ -1,6 +1,5 @@
 // The slices that are lent: as long as asked for, and what they hold before a call.
 use crate::calls;
-use crate::input;
 
 // How many entries a slice can have.
 const ROOM: usize = 65535;

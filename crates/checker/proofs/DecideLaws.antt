@@ -14,30 +14,22 @@ use Rattle.rules.specs.Rounds.{mark, markAt, marks}
 use Rattle.tables.specs.declared.Checked.the-variants.{Passed, Fault}
 use Rattle.tables.specs.Checks.{refuse, fault, _then_}
 use Rattle.tables.specs.Answers.{answer, carriedOut, sliceAfter}
-use Rattle.tables.proofs.CheckLaws.{passed-fault, then-left, then-both}
+use Rattle.tables.proofs.CheckLaws.{then-left}
 use Rattle.machines.specs.Memory.{statesIn, machineIn}
 use Rattle.marks.specs.declared.Summary.{Summary}
 use Rattle.marks.specs.Rounds.{summaryOf}
 use Rattle.marks.proofs.RoundLaws.{has-marks}
-use Rattle.checker.specs.declared.Question.{Question}
-use Rattle.checker.specs.Pairs.{pairChecks, demandOf, supplyOf, pairOf, PairLoaded}
-use Rattle.checker.specs.Decide.{modeOf, modeChecks, decideChecks, decideAnswer, decideSlice}
-use Rattle.checker.proofs.PairLaws.{asked-demand, asked-supply}
+use Rattle.questions.specs.declared.Question.{Question}
+use Rattle.questions.specs.Pairs.{pairChecks, demandOf, supplyOf, pairOf, PairLoaded}
+use Rattle.questions.specs.Modes.{modeOf, modeChecks}
+use Rattle.questions.proofs.PairLaws.{asked-demand, asked-supply}
+use Rattle.questions.proofs.ModeLaws.{mode-asked}
+use Rattle.checker.specs.Decide.{decideChecks, decideAnswer, decideSlice}
 
-module _ (s : List ℕ) (q : Question) (mode : ℕ) where
-  -- where no number applies, the pair was asked about
-  pub mode-asked : modeChecks s q mode ≡ Passed → pairChecks s q ≡ Passed
-  unfolding modeChecks
-  mode-asked e = then-left _ _ e
-
-  pub decide-asked : (room : ℕ) → decideChecks s q mode room ≡ Passed → pairChecks s q ≡ Passed
-  unfolding decideChecks
-  decide-asked room e = mode-asked (then-left _ _ e)
-
-  -- one of the two modes is no fault
-  pub known-mode : pairChecks s q ≡ Passed → mode ≤ 1 → modeChecks s q mode ≡ Passed
-  unfolding modeChecks
-  known-mode e known = then-both _ _ e (passed-fault _ _ _ (le-ltb 1 mode known))
+-- where no number applies, the pair was asked about
+pub decide-asked : (s : List ℕ) (q : Question) (mode room : ℕ) → decideChecks s q mode room ≡ Passed → pairChecks s q ≡ Passed
+unfolding decideChecks
+decide-asked s q mode room e = mode-asked s q mode (then-left _ _ e)
 
 module _ (s : List ℕ) (q : Question) (mode : ℕ) (a : modeChecks s q mode ≡ Passed) where
   pub short-fault : (room : ℕ) → room < demandOf s q .n * supplyOf s q .n → decideChecks s q mode room ≡ Fault (refuse 14 0)

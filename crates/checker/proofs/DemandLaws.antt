@@ -24,15 +24,16 @@ use Rattle.tables.specs.declared.Checked.{Checked}
 use Rattle.tables.specs.declared.Checked.the-variants.{Passed}
 use Rattle.tables.specs.Answers.{carriedOut, sliceAfter}
 use Rattle.tables.proofs.CheckLaws.{passed}
-use Rattle.marks.specs.Responses.{HasMarks}
+use Rattle.marks.specs.Rounds.{HasMarks}
 use Rattle.marks.proofs.RoundLaws.{has-marks}
-use Rattle.checker.specs.declared.Question.{Question}
+use Rattle.questions.specs.declared.Question.{Question}
+use Rattle.questions.specs.Pairs.{pairChecks, demandOf, supplyOf}
+use Rattle.questions.specs.Modes.{modeOf}
+use Rattle.questions.proofs.PairLaws.{asked-demand, asked-supply, table-at-sound}
 use Rattle.checker.specs.declared.Decided.{Decided}
 use Rattle.checker.specs.Calls.{decided}
-use Rattle.checker.specs.Pairs.{pairChecks, demandOf, supplyOf}
-use Rattle.checker.specs.Decide.{modeOf, decideChecks, decideAnswer, decideSlice}
+use Rattle.checker.specs.Decide.{decideChecks, decideAnswer, decideSlice}
 use Rattle.checker.specs.Demands.{KeptIn, MarksDemand, SecondDemand, ThirdDemand, ThirdDemandAll, DecideDemands}
-use Rattle.checker.proofs.PairLaws.{asked-demand, asked-supply, table-at-sound}
 use Rattle.checker.proofs.DecideLaws.{decide-asked}
 
 -- ---- marks that are written

@@ -1,6 +1,6 @@
 -- Laws of Join: the answer and the bytes, by what the checks find; and what is written is a body of the joined table. Relies on the laws of joining,
--- of rows in body form, and of tables that a call names.
-use Prim.Native.Nat.{ℕ, _*_, _≤_, _<_}
+-- of rows in body form, and of two demand tables that nothing turns back.
+use Prim.Native.Nat.{ℕ, _*_, _≤_}
 use mathlib.Core.Path.{_≡_, refl, sym, ap, ap₂, _∙_, subst, subst₂}
 use mathlib.Core.List.{List, [], _∷_, List·Memᴰ}
 use mathlib.Core.Logic.{_↔_}
@@ -20,44 +20,25 @@ use Rattle.tables.specs.declared.Checked.{Checked}
 use Rattle.tables.specs.declared.Checked.the-variants.{Passed}
 use Rattle.tables.specs.Checks.{refuse, _then_}
 use Rattle.tables.specs.Answers.{Answer, turnedBack, carriedOut, sliceAfter}
-use Rattle.tables.specs.File.{tablesOf, bodyBytes}
-use Rattle.tables.specs.Accepted.{TableBody, Accepted}
+use Rattle.tables.specs.File.{bodyBytes}
+use Rattle.tables.specs.Accepted.{TableBody}
 use Rattle.tables.specs.Tables.{rowsOf, tableOf, machineOf}
 use Rattle.tables.proofs.CheckLaws.{fault-passed, then-left, then-right, carried-out, passed, turned-whatever}
-use Rattle.tables.proofs.AcceptedLaws.{passed-accepted}
 use Rattle.tables.proofs.RowLaws.{length-bytes, bytes-rows, bytes-body}
 use Rattle.machines.specs.Memory.{statesIn, machineIn, InMemory}
 use Rattle.joins.specs.declared.Written.{Written}
 use Rattle.joins.specs.declared.Written.the-variants.{Count, TooMany, NoRoom}
 use Rattle.joins.specs.Joins.{TwoDemands, rowsIn, written, rowsChecks, rowsAnswer, rowsSlice}
+use Rattle.questions.specs.Sizes.{sizeChecks}
+use Rattle.questions.proofs.PairLaws.{table-at-sound, loaded-plain}
+use Rattle.questions.proofs.SizeLaws.{first-at, second-at, states-few}
 use Rattle.checker.specs.declared.Joined.{Joined}
 use Rattle.checker.specs.Calls.{joined}
-use Rattle.checker.specs.Named.{namedChecks, asDemand}
-use Rattle.checker.specs.Join.{sizeChecks, joinOf, joinChecks, joinAnswer, joinSlice, IsJoin, JoinDemands}
-use Rattle.checker.proofs.PairLaws.{TableAt, table-at, table-at-sound, file-passed, first-named, second-named, loaded-plain}
+use Rattle.checker.specs.Join.{joinOf, joinChecks, joinAnswer, joinSlice, IsJoin, JoinDemands}
 
 module _ (s : List ℕ) (i j : ℕ) (a : sizeChecks s i j ≡ Passed) where
-  -- ---- the two tables
+  -- ---- the two machines, as they are loaded
 
-  named : namedChecks s (asDemand i) (asDemand j) ≡ Passed
-  unfolding sizeChecks
-  named = then-left _ _ a
-
-  -- each is in the file, and has a state 0
-  some-state : (x : ℕ) → x < tablesOf s → 0 < tableOf s x .n
-  some-state x l = let t : Accepted s (tablesOf s) = passed-accepted s (file-passed s _ _ named) in let some = t .table x l .some-state in omega arith
-
-  pub first-at : TableAt s i 0
-  first-at = let l = first-named s _ _ named in table-at s i 0 (file-passed s _ _ named) l (some-state i l)
-
-  pub second-at : TableAt s j 0
-  second-at = let l = second-named s _ _ named in table-at s j 0 (file-passed s _ _ named) l (some-state j l)
-
-  pub states-few : tableOf s i .n * tableOf s j .n ≤ 64
-  unfolding sizeChecks
-  states-few = ltb-false 64 _ (fault-passed _ _ _ (then-right _ _ a))
-
-  -- the machines, as they are loaded
   module _ (one : List ℕ) (e : machineIn one ≡ widen 0 (machineOf s i)) (two : List ℕ) (f : machineIn two ≡ widen 0 (machineOf s j)) where
     first-is : machineIn one ≡ machineOf s i
     first-is = loaded-plain s i one e
@@ -70,7 +51,7 @@ module _ (s : List ℕ) (i j : ℕ) (a : sizeChecks s i j ≡ Passed) where
     product-is g = g ∙ ap₂ (λ (D E : Machine). D .n * E .n) first-is second-is
 
     pub two-demands : InMemory one → InMemory two → TwoDemands one two
-    two-demands x y = record { first-machine = x; second-machine = y; few = rw (product-is refl) states-few }
+    two-demands x y = record { first-machine = x; second-machine = y; few = rw (product-is refl) (states-few s i j a) }
 
     -- their rows are those of the joined table
     pub rows-found : rowsIn one two ≡ joinOf s i j .rows

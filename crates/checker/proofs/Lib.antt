@@ -1,5 +1,5 @@
-pub mod PairLaws
 pub mod MovesLaws
+pub mod GraphLaws
 pub mod DecideLaws
 pub mod DemandLaws
 pub mod RunLaws

@@ -25,11 +25,11 @@ use Rattle.tables.specs.Answers.{answer, carriedOut, sliceAfter}
 use Rattle.tables.specs.Tables.{tableOf}
 use Rattle.tables.proofs.CheckLaws.{passed}
 use Rattle.moves.specs.Survivors.{survivorsIn}
-use Rattle.checker.specs.declared.Question.{Question}
+use Rattle.questions.specs.declared.Question.{Question}
+use Rattle.questions.specs.Pairs.{pairChecks, demandOf, supplyOf, pairOf, PairLoaded}
 use Rattle.checker.specs.declared.Counted.{Counted}
 use Rattle.checker.specs.Calls.{counted}
-use Rattle.checker.specs.Pairs.{pairChecks, demandOf, supplyOf, survivorsAt, pairOf, PairLoaded}
-use Rattle.checker.specs.Moves.{movesChecks, movesAnswer, movesSlice}
+use Rattle.checker.specs.Moves.{survivorsAt, movesChecks, movesAnswer, movesSlice}
 use Rattle.checker.specs.Demands.{stepNumbers, moveAt, MovesDemand, MovesDemands}
 
 module _ (s : List ℕ) (q : Question) (a : pairChecks s q ≡ Passed) (cs : List Candidate) (same : cs ≡ survivorsAt s q) (count : ℕ) (counted : count ≡ length cs) where

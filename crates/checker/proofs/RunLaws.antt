@@ -23,15 +23,17 @@ use Rattle.tables.proofs.CheckLaws.{then-left, then-fault, turned-back, passed}
 use Rattle.marks.specs.Rounds.{marksIn}
 use Rattle.marks.proofs.RoundLaws.{has-marks}
 use Rattle.runs.specs.Walks.{RunStarts, markFrom, stepsFrom}
-use Rattle.checker.specs.declared.Question.{Question}
+use Rattle.questions.specs.declared.Question.{Question}
+use Rattle.questions.specs.Pairs.{pairChecks, demandOf, supplyOf, pairOf, PairLoaded}
+use Rattle.questions.specs.Modes.{modeOf, modeChecks}
+use Rattle.questions.proofs.PairLaws.{asked-demand, asked-supply, table-at-sound, pairs-are}
+use Rattle.questions.proofs.ModeLaws.{mode-asked}
 use Rattle.checker.specs.declared.Counted.{Counted}
 use Rattle.checker.specs.Calls.{counted}
-use Rattle.checker.specs.Pairs.{pairChecks, demandOf, supplyOf, pairOf, PairLoaded}
-use Rattle.checker.specs.Decide.{modeOf, modeChecks, decideChecks}
+use Rattle.checker.specs.Decide.{decideChecks}
 use Rattle.checker.specs.Run.{runChecks, runAnswer, runMarks, runSteps}
 use Rattle.checker.specs.Demands.{RunDemand, RunDemands}
-use Rattle.checker.proofs.PairLaws.{asked-demand, asked-supply, table-at-sound, pairs-are}
-use Rattle.checker.proofs.DecideLaws.{mode-asked, decide-asked, none-fault}
+use Rattle.checker.proofs.DecideLaws.{decide-asked, none-fault}
 use Rattle.checker.proofs.DemandLaws.{marks-demand}
 
 -- turned back: the second slice is unchanged too

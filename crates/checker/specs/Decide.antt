@@ -1,27 +1,17 @@
 -- Decide. Document 01, 'Operations and what they turn back'.
 use Prim.Native.Nat.{ℕ, _*_}
-use mathlib.Core.Bool.{cond}
 use mathlib.Core.List.{List, [], _∷_}
 use lib.Dec.{ltb, eqb}
 use lib.ListN.{length}
-use Rattle.rules.specs.declared.Mode.{Mode}
-use Rattle.rules.specs.declared.Mode.the-variants.{Full, Partial}
 use Rattle.rules.specs.Below.{one}
 use Rattle.rules.specs.Slices.{overwrite}
 use Rattle.rules.specs.Rounds.{mark, marks, keptCount, rounds}
 use Rattle.tables.specs.declared.Checked.{Checked}
 use Rattle.tables.specs.Checks.{fault, _then_}
 use Rattle.tables.specs.Answers.{Answer, answer, sliceAfter}
-use Rattle.checker.specs.declared.Question.{Question}
-use Rattle.checker.specs.Pairs.{pairChecks, demandOf, supplyOf}
-
--- "a mode, 0 full or 1 partial"; another number is turned back, and what it gives here means nothing
-unfoldable pub modeOf : ℕ → Mode
-modeOf m = cond (eqb m 0) Full Partial
-
--- "After 11, 12, 13 as above: 15 another mode"
-unfoldable pub modeChecks : List ℕ → Question → ℕ → Checked
-modeChecks s q mode = pairChecks s q then fault (ltb 1 mode) 15 0
+use Rattle.questions.specs.declared.Question.{Question}
+use Rattle.questions.specs.Pairs.{demandOf, supplyOf}
+use Rattle.questions.specs.Modes.{modeOf, modeChecks}
 
 -- then "14 the lent 16-bit slice is shorter than the demand n × the supply n."; room is its length
 unfoldable pub decideChecks : List ℕ → Question → ℕ → ℕ → Checked

@@ -20,9 +20,9 @@ use Rattle.rules.specs.Rounds.{Kept, markAt, countPairs}
 use Rattle.rules.specs.Runs.{Free, Schedulable}
 use Rattle.rules.specs.Steps.{IsRun, EndsBlocked, stepRows}
 use Rattle.tables.specs.Answers.{Answer, carriedOut}
-use Rattle.checker.specs.declared.Question.{Question}
-use Rattle.checker.specs.Pairs.{demandOf, supplyOf}
-use Rattle.checker.specs.Decide.{modeOf}
+use Rattle.questions.specs.declared.Question.{Question}
+use Rattle.questions.specs.Pairs.{demandOf, supplyOf}
+use Rattle.questions.specs.Modes.{modeOf}
 
 -- "Marked 0 means kept; the kept set of a carried-out call that writes marks is the pairs of states whose mark it wrote as 0."
 abbrev pub KeptIn : Machine → Machine → List ℕ → Pairs

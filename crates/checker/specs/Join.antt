@@ -3,7 +3,6 @@ use Prim.Native.Nat.{ℕ, _*_, _<_}
 use mathlib.Core.Path.{_≡_}
 use mathlib.Core.List.{List, [], _∷_, List·Memᴰ}
 use mathlib.Core.Logic.{_↔_}
-use lib.Dec.{ltb}
 use lib.ListN.{length, take}
 use Rattle.rules.specs.declared.Row.{Row}
 use Rattle.rules.specs.Slices.{overwrite}
@@ -11,17 +10,13 @@ use Rattle.rules.specs.Machines.{Table, Machine, machine}
 use Rattle.rules.specs.Actions.{Action, tasks, _∥_}
 use Rattle.rules.specs.Join.{joinState, join, IsJoinRow}
 use Rattle.tables.specs.declared.Checked.{Checked}
-use Rattle.tables.specs.Checks.{fault, _then_}
+use Rattle.tables.specs.Checks.{_then_}
 use Rattle.tables.specs.Answers.{Answer, answer, carriedOut, sliceAfter}
 use Rattle.tables.specs.File.{bodyBytes}
 use Rattle.tables.specs.Accepted.{TableBody}
 use Rattle.tables.specs.Tables.{rowsOf, tableOf, machineOf}
 use Rattle.joins.specs.Joins.{rowsChecks}
-use Rattle.checker.specs.Named.{namedChecks, asDemand}
-
--- "Two demand tables, perhaps the same one. After Open's: 11, 12, first then second; 16 if the product of the two n is above 64"
-unfoldable pub sizeChecks : List ℕ → ℕ → ℕ → Checked
-sizeChecks s i j = namedChecks s (asDemand i) (asDemand j) then fault (ltb 64 (tableOf s i .n * tableOf s j .n)) 16 0
+use Rattle.questions.specs.Sizes.{sizeChecks}
 
 -- the joined table
 abbrev pub joinOf : List ℕ → ℕ → ℕ → Table

@@ -1,7 +1,6 @@
 pub mod Calls
-pub mod Named
-pub mod Pairs
 pub mod Moves
+pub mod Graph
 pub mod Decide
 pub mod Run
 pub mod Demands

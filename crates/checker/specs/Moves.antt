@@ -4,12 +4,16 @@ use mathlib.Core.List.{List, [], _∷_, flatMap}
 use lib.Dec.{ltb}
 use lib.ListN.{length}
 use Rattle.rules.specs.Slices.{overwrite}
-use Rattle.rules.specs.Moves.{numbers}
+use Rattle.rules.specs.Moves.{Candidate, survivors, numbers}
 use Rattle.tables.specs.declared.Checked.{Checked}
 use Rattle.tables.specs.Checks.{fault, _then_}
 use Rattle.tables.specs.Answers.{Answer, answer, sliceAfter}
-use Rattle.checker.specs.declared.Question.{Question}
-use Rattle.checker.specs.Pairs.{pairChecks, survivorsAt}
+use Rattle.questions.specs.declared.Question.{Question}
+use Rattle.questions.specs.Pairs.{pairChecks, demandOf, supplyOf}
+
+-- the surviving moves of the pair
+abbrev pub survivorsAt : List ℕ → Question → List Candidate
+survivorsAt s q = survivors (demandOf s q) (supplyOf s q) (q .demand .state) (q .supply .state)
 
 -- "14 the lent slice of 16-bit numbers is shorter than 5 × the surviving moves"; room is its length
 unfoldable pub movesChecks : List ℕ → Question → ℕ → Checked

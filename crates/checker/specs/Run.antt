@@ -9,9 +9,10 @@ use Rattle.rules.specs.Steps.{steps}
 use Rattle.tables.specs.declared.Checked.{Checked}
 use Rattle.tables.specs.Checks.{fault, _then_}
 use Rattle.tables.specs.Answers.{Answer, answer, sliceAfter}
-use Rattle.checker.specs.declared.Question.{Question}
-use Rattle.checker.specs.Pairs.{demandOf, supplyOf}
-use Rattle.checker.specs.Decide.{modeOf, decideChecks}
+use Rattle.questions.specs.declared.Question.{Question}
+use Rattle.questions.specs.Pairs.{demandOf, supplyOf}
+use Rattle.questions.specs.Modes.{modeOf}
+use Rattle.checker.specs.Decide.{decideChecks}
 
 -- "As Decide, with a second 16-bit slice; 14 also if that has under 2 × the demand n × the supply n entries."; the lengths of the slices for marks
 -- and for steps are marksRoom and stepsRoom

@@ -1,36 +1,17 @@
-// The join of two demand tables: what turns it back, and its rows where nothing does.
+// The join of two demand tables that nothing turns back before its rows are built: its rows, where they are not too many and there is room.
 ghost use mathlib.Core.Path.{_≡_};
 ghost use lib.ListN.{length};
 ghost use Rattle.tables.specs.declared.Checked.the-variants.{Passed};
+ghost use Rattle.questions.specs.Sizes.{sizeChecks};
 ghost use Rattle.checker.specs.Calls.{joined};
-ghost use Rattle.checker.specs.Join.{sizeChecks, joinAnswer, joinSlice};
+ghost use Rattle.checker.specs.Join.{joinAnswer, joinSlice};
 use crate::Joined;
 use crate::TableSize;
-use crate::named::Named;
-use crate::named::check_named;
 use joins::Written;
 use machines::Layout;
 use machines::load_table;
 use machines::pair_count;
-use rules::Limits;
-use tables::Checked;
 use tables::Refusal;
-use tables::states_of;
-
-// What turns back a join before its rows are built.
-pub(crate) fn check_join(file: &[u8], first: usize, second: usize) -> Checked
-    ensures { λ r. ⌜ r ≡ sizeChecks (now (file .entry)) first second ⌝ }
-{
-    let found = check_named(file, Named::demand(first), Named::demand(second));
-    if let Checked::Fault(_) = found {
-        return found;
-    }
-    let states = states_of(file, first) as usize * states_of(file, second) as usize;
-    if Limits::STATES < states {
-        return Checked::Fault(Refusal::new(16, 0));
-    }
-    Checked::Passed
-}
 
 // Writes the rows of the join where there is room.
 pub(crate) fn write_join(file: &[u8], first: usize, second: usize, out: &mut [u8]) -> Joined

@@ -1,33 +1,28 @@
-// The calls about a pair of states and about two tables, as document 01 lists them. Each opens the file, turns back what must be turned back, loads
+// The calls about a pair of states and about two tables, as documents 01 and 02 list them. Each opens the file, turns back what must be turned back, loads
 // the two tables, and has an engine work out the answer. Nothing is asked of the caller. Relies on `rules` for the meaning, on `tables` for the
-// file, on `machines` for loading, and on the engines: `moves` for the surviving moves of a pair, `marks` for the marks of all pairs, `runs` for
-// the run that shows a no, `joins` for the rows of a join.
+// file, on `questions` for what turns back a call before its engine runs and for loading the tables of a pair, on `machines` for loading those of a
+// join, and on the engines: `moves` for the surviving moves of a pair, `graphs` for those of all pairs as text, `marks` for the marks of all pairs,
+// `runs` for the run that shows a no, `joins` for the rows of a join.
 ghost use mathlib.Core.Path.{_≡_};
 ghost use lib.ListN.{length};
 ghost use Rattle.checker.specs.Calls.{counted, decided, joined};
 ghost use Rattle.checker.specs.Moves.{movesAnswer, movesSlice};
+ghost use Rattle.checker.specs.Graph.{graphAnswer, graphSlice, GraphDemands};
 ghost use Rattle.checker.specs.Decide.{decideAnswer, decideSlice};
 ghost use Rattle.checker.specs.Run.{runAnswer, runMarks, runSteps};
 ghost use Rattle.checker.specs.Demands.{MovesDemands, DecideDemands, RunDemands};
 ghost use Rattle.checker.specs.Join.{joinAnswer, joinSlice, JoinDemands};
+use questions::check_decision;
+use questions::check_join;
+use questions::check_pair;
 use tables::Checked;
 use tables::Refusal;
 
 mod joining;
-mod named;
 mod pairs;
 
-// One side of a question: the number of a table, and a state of it.
-pub struct Side {
-    pub table: usize,
-    pub state: usize,
-}
-
-// What a call asks about: a state of a demand table beside a state of a supply table.
-pub struct Question {
-    pub demand: Side,
-    pub supply: Side,
-}
+pub use questions::Question;
+pub use questions::Side;
 
 // What a call that writes a list answers: how many moves, steps or bytes there are, or why the call is turned back.
 pub enum Counted {
@@ -66,10 +61,22 @@ pub fn moves(file: &[u8], question: Question, out: &mut [u16]) -> Counted
     ensures slice { λ r. ⌜ now (out .exit) ≡ movesSlice (now (file .entry)) question (now (out .entry)) ⌝ }
     ensures demands { λ r. ⌜ MovesDemands (now (file .entry)) question (counted r) (now (out .exit)) ⌝ }
 {
-    if let Checked::Fault(refusal) = pairs::check_pair(file, question) {
+    if let Checked::Fault(refusal) = check_pair(file, question) {
         return Counted::Refused(refusal);
     }
     pairs::write_moves(file, question, out)
+}
+
+// Graph: the surviving moves of all pairs of states as .aut text for a viewer, with the question's pair as its start.
+pub fn graph(file: &[u8], question: Question, out: &mut [u8]) -> Counted
+    ensures answer { λ r. ⌜ counted r ≡ graphAnswer (now (file .entry)) question (length (now (out .entry))) ⌝ }
+    ensures slice { λ r. ⌜ now (out .exit) ≡ graphSlice (now (file .entry)) question (now (out .entry)) ⌝ }
+    ensures demands { λ r. ⌜ GraphDemands (now (file .entry)) question (counted r) (now (out .exit)) ⌝ }
+{
+    if let Checked::Fault(refusal) = check_pair(file, question) {
+        return Counted::Refused(refusal);
+    }
+    pairs::write_graph(file, question, out)
 }
 
 // Decide: the marks of all pairs of states, by mode 0 (full) or 1 (partial), and what they say of the start pair.
@@ -78,7 +85,7 @@ pub fn decide(file: &[u8], question: Question, mode: usize, marks: &mut [u16]) -
     ensures slice { λ r. ⌜ now (marks .exit) ≡ decideSlice (now (file .entry)) question mode (now (marks .entry)) ⌝ }
     ensures demands { λ r. ⌜ DecideDemands (now (file .entry)) question mode (decided r) (now (marks .exit)) ⌝ }
 {
-    if let Checked::Fault(refusal) = pairs::check_decision(file, question, mode) {
+    if let Checked::Fault(refusal) = check_decision(file, question, mode) {
         return Decided::Refused(refusal);
     }
     pairs::write_marks(file, question, mode, marks)
@@ -97,7 +104,7 @@ pub fn run(
     ensures steps { λ r. ⌜ now (steps .exit) ≡ runSteps (now (file .entry)) question mode (length (now (marks .entry))) (now (steps .entry)) ⌝ }
     ensures demands { λ r. ⌜ RunDemands (now (file .entry)) question mode (counted r) (now (marks .exit)) (now (steps .exit)) ⌝ }
 {
-    if let Checked::Fault(refusal) = pairs::check_decision(file, question, mode) {
+    if let Checked::Fault(refusal) = check_decision(file, question, mode) {
         return Counted::Refused(refusal);
     }
     pairs::write_run(file, question, mode, marks, steps)
@@ -109,7 +116,7 @@ pub fn join(file: &[u8], first: usize, second: usize, out: &mut [u8]) -> Joined
     ensures slice { λ r. ⌜ now (out .exit) ≡ joinSlice (now (file .entry)) first second (now (out .entry)) ⌝ }
     ensures demands { λ r. ⌜ JoinDemands (now (file .entry)) first second (joined r) (now (out .exit)) ⌝ }
 {
-    if let Checked::Fault(refusal) = joining::check_join(file, first, second) {
+    if let Checked::Fault(refusal) = check_join(file, first, second) {
         return Joined::Refused(refusal);
     }
     joining::write_join(file, first, second, out)

@@ -1,4 +1,3 @@
-pub mod LeadLaws
 pub mod MoveTestLaws
 pub mod LostLaws
 pub mod RoundLaws

@@ -1,3 +1,2 @@
-pub mod Responses
 pub mod Sets
 pub mod Rounds

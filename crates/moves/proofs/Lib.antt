@@ -1,2 +1,2 @@
-pub mod PairLaws
+pub mod SurvivorLaws
 pub mod ResponseLaws

@@ -14,13 +14,15 @@ use Rattle.rules.proofs.BelowLaws.{one-same}
 use Rattle.tables.specs.declared.Refusal.{Refusal}
 use Rattle.tables.specs.declared.Checked.the-variants.{Passed}
 use Rattle.tables.specs.Answers.{Answer, answer, carriedOut, turnedBack, sliceAfter}
-use Rattle.checker.specs.declared.Question.{Question}
+use Rattle.questions.specs.declared.Question.{Question}
+use Rattle.questions.specs.Pairs.{pairChecks, demandOf, supplyOf}
+use Rattle.questions.specs.Modes.{modeOf}
+use Rattle.questions.proofs.PairLaws.{asked-demand, asked-supply}
+use Rattle.questions.proofs.ModeLaws.{known-mode}
 use Rattle.checker.specs.declared.Verdict.{Verdict}
-use Rattle.checker.specs.Pairs.{pairChecks, demandOf, supplyOf}
-use Rattle.checker.specs.Decide.{modeOf, decideAnswer}
+use Rattle.checker.specs.Decide.{decideAnswer}
 use Rattle.checker.specs.Run.{runChecks, runAnswer, runSteps}
-use Rattle.checker.proofs.PairLaws.{asked-demand, asked-supply}
-use Rattle.checker.proofs.DecideLaws.{known-mode, none-fault}
+use Rattle.checker.proofs.DecideLaws.{none-fault}
 use Rattle.checker.proofs.RunLaws.{no-fault}
 use Rattle.report.specs.declared.pages.Found.{Found}
 use Rattle.report.specs.Pages.{stepsAt}

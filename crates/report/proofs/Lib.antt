@@ -1,4 +1,3 @@
-pub mod TableLaws
 pub mod DecisionLaws
 pub mod PageLaws
 pub mod ReportLaws

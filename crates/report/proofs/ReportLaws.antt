@@ -1,13 +1,13 @@
--- The text by what the checks find, how long it can be, and the composed text. Relies on the laws of lines, of tables and of decisions.
+-- The text by what is asked, how long it can be, and the composed text. Relies on the laws of lines, of `questions` and of decisions.
 use Prim.Native.Nat.{ℕ, _+_, _*_, _^_, _≤_, _<_}
 use mathlib.Core.Path.{_≡_, refl, sym, ap, _∙_}
-use mathlib.Core.Bool.{Bool, true, false, not}
+use mathlib.Core.Bool.{Bool, true, false}
 use mathlib.Core.List.{List, [], _∷_, _++_, flatMap}
 use native.Mathlib.Omega.{arith}
 use lib.Dec.{ltb, eqb}
 use lib.ListN.{length, getD, take, drop, length-append}
 use lib.Seq.{take-at}
-use borrow.Author.Tests.{ltb-false, leb-false, lt-ltb, le-ltb, le-leb, lt-leb, eq-eqb}
+use borrow.Author.Tests.{ltb-false, lt-ltb, le-ltb}
 use Rattle.rules.specs.declared.Mode.{Mode}
 use Rattle.rules.specs.declared.Mode.the-variants.{Full, Partial}
 use Rattle.rules.specs.Slices.{writeAt, overwrite}
@@ -21,23 +21,19 @@ use Rattle.rules.proofs.StepLaws.{length-slots, length-steps}
 use Rattle.tables.specs.declared.Refusal.{Refusal}
 use Rattle.tables.specs.declared.Checked.{Checked}
 use Rattle.tables.specs.declared.Checked.the-variants.{Passed, Fault}
-use Rattle.tables.specs.declared.Opened.{Opened}
-use Rattle.tables.specs.declared.Opened.the-variants.{Tables, Refused}
-use Rattle.tables.specs.Checks.{refuse, fault, _then_}
-use Rattle.tables.specs.Answers.{Answer, answer, turnedBack, carriedOut, opened, sliceAfter}
-use Rattle.tables.specs.File.{tablesOf, entryOf}
-use Rattle.tables.specs.Tables.{tableOf}
-use Rattle.tables.specs.Open.{fileFault, openOf}
-use Rattle.tables.proofs.CheckLaws.{fault-passed, passed-fault, then-left, then-right, then-both, turned-back}
-use Rattle.tables.proofs.AcceptedLaws.{passed-accepted, tables-passed, refused-fault}
-use Rattle.checker.specs.declared.Side.{Side}
-use Rattle.checker.specs.declared.Question.{Question}
-use Rattle.checker.specs.Decide.{modeOf}
-use Rattle.checker.specs.Named.{namedChecks}
-use Rattle.checker.specs.Pairs.{pairChecks, demandOf, supplyOf}
+use Rattle.tables.specs.Checks.{refuse, fault}
+use Rattle.tables.specs.Answers.{Answer, answer, turnedBack, carriedOut, sliceAfter}
+use Rattle.tables.specs.File.{tablesOf}
+use Rattle.tables.proofs.CheckLaws.{turned-back}
+use Rattle.questions.specs.declared.Question.{Question}
+use Rattle.questions.specs.Pairs.{demandOf, supplyOf}
+use Rattle.questions.specs.Modes.{modeOf}
+use Rattle.questions.specs.declared.programs.Asked.the-variants as asked
+use Rattle.questions.specs.Questions.{questionOf, programChecks, askedOf}
+use Rattle.questions.proofs.QuestionLaws.{question-asked, asked-refused, asked-question, asked-passes}
 use Rattle.text.proofs.TextLaws.{length-decimal}
 use Rattle.lines.specs.Lines.{fileLine, modeWord, verdictWord, verdictLine, stepLine, stepLines}
-use Rattle.report.specs.Report.{firstOf, firstDemand, firstSupply, startOf, startSide, questionOf, refusalLine, askedLine, programChecks, modeText, decisionText, textAfter, text, roomFault, reportAnswer, reportBytes}
+use Rattle.report.specs.Report.{refusalLine, askedLine, modeText, decisionText, textAfter, text, roomFault, reportAnswer, reportBytes}
 use Rattle.report.specs.declared.pages.Found.{Found}
 use Rattle.report.specs.declared.pages.Outcome.{Outcome}
 use Rattle.report.specs.declared.pages.Page.{Page}
@@ -45,73 +41,13 @@ use Rattle.report.specs.declared.pages.Page.the-variants as page
 use Rattle.report.specs.Pages.{foundText, foundOf, pageText, Whole}
 use Rattle.lines.proofs.LineLaws.{length-refused, length-file, length-start, length-verdict, length-step, length-row, four}
 use Rattle.lines.proofs.StepsLaws.{slots-lines}
-use Rattle.report.proofs.TableLaws.{first-kind, start-below}
 use Rattle.report.proofs.DecisionLaws.{few-pairs}
 
--- ---- by what opening finds
+-- ---- by what is asked
 
-module _ (s : List ℕ) (o : Opened) (e : opened o ≡ openOf s) where
-  pub text-refused : (r : Refusal) → o ≡ Refused r → text s ≡ refusalLine r
-  unfolding text programChecks _then_
-  text-refused r p = rw (refused-fault s r (rw p at e)) refl
-
-  module _ (k : ℕ) (p : o ≡ Tables k) where
-    file-passed : (fileFault s ≡ Passed) × (tablesOf s ≡ k)
-    file-passed = tables-passed s k (rw p at e)
-
-    module _ (d : ℕ) (demand : d ≡ firstOf s 1 k) where
-      pub text-no-demand : k ≤ d → text s ≡ refusalLine (refuse 12 0)
-      unfolding text programChecks _then_ fault
-      text-no-demand h = rw (file-passed .0, file-passed .1, sym demand, le-leb k d h) refl
-
-      module _ (u : ℕ) (supply : u ≡ firstOf s 2 k) (l : d < k) where
-        pub text-no-supply : k ≤ u → text s ≡ refusalLine (refuse 12 0)
-        unfolding text programChecks _then_ fault
-        text-no-supply h = rw (file-passed .0, file-passed .1, sym demand, sym supply, lt-leb k d l, le-leb k u h) refl
-
-        pub program-passed : u < k → programChecks s ≡ Passed
-        unfolding programChecks _then_ fault
-        program-passed h = rw (file-passed .0, file-passed .1, sym demand, sym supply, lt-leb k d l, lt-leb k u h) refl
-
-        pub question-is : {x y : Side} → x ≡ startSide s d → y ≡ startSide s u → questionOf s ≡ record { demand = x; supply = y }
-        question-is f g = rw (file-passed .1, sym demand, sym supply) (λ i. record { demand = sym f i; supply = sym g i })
-
-        pub count-is : tablesOf s ≡ k
-        count-is = file-passed .1
-
--- ---- the question is about a pair of states
-
-module _ (s : List ℕ) (passed : programChecks s ≡ Passed) where
-  file-fault : fileFault s ≡ Passed
-  unfolding programChecks
-  file-fault = then-left _ _ passed
-
-  demand-there : firstDemand s < tablesOf s
-  unfolding programChecks
-  demand-there = leb-false _ _ (fault-passed _ _ _ (then-left _ _ (then-right _ _ passed)))
-
-  supply-there : firstSupply s < tablesOf s
-  unfolding programChecks
-  supply-there = leb-false _ _ (fault-passed _ _ _ (then-right _ _ (then-right _ _ passed)))
-
-  start-state : (i : ℕ) → i < tablesOf s → startOf (tableOf s i .n) < tableOf s i .n
-  start-state i h = start-below _ (passed-accepted s file-fault .table i h .some-state)
-
-  kind-right : (kind i : ℕ) → entryOf s i .kind ≡ kind → not (eqb (entryOf s i .kind) kind) ≡ false
-  kind-right kind i h = rw (eq-eqb _ _ h) refl
-
-  pub question-asked : pairChecks s (questionOf s) ≡ Passed
-  unfolding pairChecks namedChecks
-  question-asked =
-      then-both _ _
-      (then-both _ _ file-fault
-      (then-both _ _ (passed-fault _ _ _ (lt-leb _ _ demand-there))
-      (then-both _ _ (passed-fault _ _ _ (lt-leb _ _ supply-there))
-      (then-both _ _ (passed-fault _ _ _ (kind-right 1 _ (first-kind s 1 _ demand-there))) (passed-fault _ _ _ (kind-right 2 _ (first-kind s 2 _ supply-there)))))))
-      (then-both _ _ (passed-fault _ _ _ (lt-leb _ _ (start-state _ demand-there))) (passed-fault _ _ _ (lt-leb _ _ (start-state _ supply-there))))
-
-pub first-asked : (s : List ℕ) → programChecks s ≡ Passed → (q : Question) → questionOf s ≡ q → pairChecks s q ≡ Passed
-first-asked s passed q same = rw same at (question-asked s passed)
+pub text-refused : (s : List ℕ) (r : Refusal) → askedOf s ≡ asked.Refused r → text s ≡ refusalLine r
+unfolding text
+text-refused s r e = rw (asked-refused s r e) refl
 
 -- ---- how long the text can be
 
@@ -207,8 +143,8 @@ module _ (s full partial : List ℕ) where
   pub refused-page : (r : Refusal) → text s ≡ refusalLine r → (pageText (page.Refused r) full partial ≡ text s) × Whole (page.Refused r) full partial
   refused-page r e = (sym e, record { steps-in = tt; short = page-short (page.Refused r) (sym e) })
 
-  -- where the checks pass, the answers about the first tables
-  module _ (passed : programChecks s ≡ Passed) (k : ℕ) (count : tablesOf s ≡ k) (q : Question) (same : questionOf s ≡ q) where
+  -- where a question is asked, the answers to it
+  module _ (q : Question) (asks : askedOf s ≡ asked.Question q) (k : ℕ) (count : tablesOf s ≡ k) where
     abbrev found : ℕ → Found
     found mode = foundOf (modeOf mode) (demandOf s q) (supplyOf s q) (q .demand .state) (q .supply .state)
 
@@ -218,12 +154,13 @@ module _ (s full partial : List ℕ) where
     text-outcome : text s ≡ fileLine (length s) k ++ askedLine q ++ decisionText Full s q ++ decisionText Partial s q
     unfolding text
     text-outcome =
+        let (passed, same) = asked-question s q asks in
         ap (λ (c : Checked). textAfter c s) passed
         ∙ (λ i. fileLine (length s) (count i) ++ askedLine (same i) ++ decisionText Full s (same i) ++ decisionText Partial s (same i))
 
     steps-in : (mode : ℕ) (a : Found) (l : List ℕ) → a ≡ found mode → 8192 ≤ length l → 2 * a .steps ≤ length l
     steps-in mode a l e h =
-        let few = few-pairs s q (first-asked s passed q same) in
+        let few = few-pairs s q (asked-passes s q asks) in
         let most = mark-within (modeOf mode) (demandOf s q) (supplyOf s q) (q .demand .state) (q .supply .state) in
         let is : a .steps ≡ found mode .steps = ap (λ (f : Found). f .steps) e in
         omega arith

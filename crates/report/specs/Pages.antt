@@ -8,8 +8,8 @@ use Rattle.rules.specs.declared.Mode.the-variants.{Full, Partial}
 use Rattle.rules.specs.Machines.{Machine}
 use Rattle.rules.specs.Rounds.{mark, keptCount, rounds}
 use Rattle.rules.specs.Steps.{steps}
-use Rattle.checker.specs.declared.Question.{Question}
-use Rattle.checker.specs.Pairs.{demandOf, supplyOf}
+use Rattle.questions.specs.declared.Question.{Question}
+use Rattle.questions.specs.Pairs.{demandOf, supplyOf}
 use Rattle.report.specs.declared.pages.Found.{Found}
 use Rattle.report.specs.declared.pages.Page.{Page}
 use Rattle.report.specs.declared.pages.Page.the-variants.{Refused, Answered}

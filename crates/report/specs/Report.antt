@@ -1,8 +1,7 @@
 -- The text that the program prints for a file. Document 01, 'The program'.
-use Prim.Native.Nat.{ℕ, zero, suc}
-use mathlib.Core.Bool.{cond}
+use Prim.Native.Nat.{ℕ}
 use mathlib.Core.List.{List, [], _∷_, _++_, flatMap}
-use lib.Dec.{ltb, leb, eqb}
+use lib.Dec.{ltb, eqb}
 use lib.ListN.{length}
 use Rattle.rules.specs.declared.Mode.{Mode}
 use Rattle.rules.specs.declared.Mode.the-variants.{Full, Partial}
@@ -13,39 +12,13 @@ use Rattle.rules.specs.Steps.{slots}
 use Rattle.tables.specs.declared.Refusal.{Refusal}
 use Rattle.tables.specs.declared.Checked.{Checked}
 use Rattle.tables.specs.declared.Checked.the-variants.{Passed, Fault}
-use Rattle.tables.specs.Checks.{fault, _then_}
+use Rattle.tables.specs.Checks.{fault}
 use Rattle.tables.specs.Answers.{Answer, answer, sliceAfter}
-use Rattle.tables.specs.File.{tablesOf, entryOf}
-use Rattle.tables.specs.Open.{fileFault}
-use Rattle.tables.specs.Tables.{tableOf}
-use Rattle.checker.specs.declared.Side.{Side}
-use Rattle.checker.specs.declared.Question.{Question}
-use Rattle.checker.specs.Pairs.{demandOf, supplyOf}
+use Rattle.tables.specs.File.{tablesOf}
+use Rattle.questions.specs.declared.Question.{Question}
+use Rattle.questions.specs.Pairs.{demandOf, supplyOf}
+use Rattle.questions.specs.Questions.{questionOf, programChecks}
 use Rattle.lines.specs.Lines.{refusedLine, fileLine, startLine, verdictLine, stepLine}
-
--- the first of the tables 0 to k - 1 that is of a kind, or k where none is
-unfoldable pub firstOf : List ℕ → ℕ → ℕ → ℕ
-firstOf s kind zero = 0
-firstOf s kind (suc i) = cond (ltb (firstOf s kind i) i) (firstOf s kind i) (cond (eqb (entryOf s i .kind) kind) i (suc i))
-
--- "the first demand and the first supply table"
-abbrev pub firstDemand : List ℕ → ℕ
-firstDemand s = firstOf s 1 (tablesOf s)
-
-abbrev pub firstSupply : List ℕ → ℕ
-firstSupply s = firstOf s 2 (tablesOf s)
-
--- "from state 1 of each (0 where n is 1)"
-unfoldable pub startOf : ℕ → ℕ
-startOf n = cond (eqb n 1) 0 1
-
--- a table with the state that it is started from
-abbrev pub startSide : List ℕ → ℕ → Side
-startSide s table = record { table = table; state = startOf (tableOf s table .n) }
-
--- what is asked: the two tables, each from its start
-abbrev pub questionOf : List ℕ → Question
-questionOf s = record { demand = startSide s (firstDemand s); supply = startSide s (firstSupply s) }
 
 -- "the line `refused N at P`", of a refusal
 abbrev pub refusalLine : Refusal → List ℕ
@@ -54,10 +27,6 @@ refusalLine r = refusedLine (r .number) (r .place)
 -- "table numbers; states", of a question
 abbrev pub askedLine : Question → List ℕ
 askedLine q = startLine (q .demand .table) (q .supply .table) (q .demand .state) (q .supply .state)
-
--- "a missing kind is 12 at 0"
-unfoldable pub programChecks : List ℕ → Checked
-programChecks s = fileFault s then fault (leb (tablesOf s) (firstDemand s)) 12 0 then fault (leb (tablesOf s) (firstSupply s)) 12 0
 
 -- a mode's line and its step lines, from the pair (t, w); "Step lines follow a no": from a pair that is kept there are no slots
 unfoldable pub modeText : Mode → Machine → Machine → ℕ → ℕ → List ℕ

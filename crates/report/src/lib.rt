@@ -1,5 +1,6 @@
-// The whole text that the program prints for a file of tables, written to a lent buffer. Nothing is asked of the caller. Relies on `tables` to open the
-// file, on `checker` for the decisions and the runs, on `lines` for the lines of the text, and on `rules` for rows and limits.
+// The whole text that the program prints for a file of tables, written to a lent buffer. Nothing is asked of the caller. Relies on `questions` to open
+// the file and for what is asked about it, on `tables` for the count of its tables, on `checker` for the decisions and the runs, on `lines` for the
+// lines of the text, and on `rules` for the modes and limits.
 ghost use mathlib.Core.Path.{_≡_};
 ghost use lib.ListN.{length};
 ghost use Rattle.checker.specs.Calls.{counted};

@@ -4,31 +4,26 @@ ghost use mathlib.Core.Path.{_≡_};
 ghost use lib.ListN.{length};
 ghost use Rattle.rules.specs.Slices.{writeAt, overwrite};
 ghost use Rattle.tables.specs.declared.Checked.the-variants.{Passed};
-ghost use Rattle.checker.specs.Pairs.{pairChecks};
-ghost use Rattle.checker.specs.Decide.{modeOf};
+ghost use Rattle.questions.specs.Pairs.{pairChecks};
+ghost use Rattle.questions.specs.Modes.{modeOf};
 ghost use Rattle.report.specs.declared.pages.Page.the-variants.{Answered};
-ghost use Rattle.report.specs.Report.{text, firstOf, startSide};
+ghost use Rattle.report.specs.Report.{text};
 ghost use Rattle.report.specs.Pages.{foundAt, stepsAt, foundText, pageText, Whole};
 use checker::Counted;
 use checker::Decided;
 use checker::Question;
-use checker::Side;
 use checker::Verdict;
 use lines::put_file;
 use lines::put_refused;
 use lines::put_start;
 use lines::put_steps;
 use lines::put_verdict;
+use questions::Asked;
+use questions::ask;
 use rules::Limits;
 use rules::Mode;
-use rules::Row;
-use tables::Entry;
-use tables::Opened;
 use tables::Refusal;
-use tables::entry_at;
-use tables::open;
-use tables::refusal_of;
-use tables::states_of;
+use tables::table_count;
 
 // Entries for the marks of the most pairs there can be, and for the longest run.
 const PAIRS: usize = Limits::STATES * Limits::STATES;
@@ -67,30 +62,6 @@ pub(crate) enum Page {
     Answered(Outcome),
 }
 
-// The first table of a kind, or k where there is none.
-fn first_table(file: &[u8], k: usize, kind: u8) -> usize
-    ensures { λ r. ⌜ r ≡ firstOf (now (file .entry)) kind k ⌝ }
-{
-    for i in 0..k {
-        let entry = entry_at(file, i);
-        if entry.kind == kind {
-            return i;
-        }
-    }
-    k
-}
-
-// A table, with the state that it is started from.
-fn start_side(file: &[u8], table: usize) -> Side
-    ensures { λ r. ⌜ r ≡ startSide (now (file .entry)) table ⌝ }
-{
-    if states_of(file, table) == 1 {
-        let state = Row::FIN as usize;
-        return Side { table, state };
-    }
-    Side { table, state: 1 }
-}
-
 // What a mode finds, and in `steps` the run that shows a no. Nothing turns back a call here, so the answer for that case is never given.
 fn find(file: &[u8], question: Question, mode: usize, steps: &mut [u16]) -> Found
     requires { ⌜ (pairChecks (now file) question ≡ Passed) × (mode ≤ 1) × (8192 ≤ length (now steps)) ⌝ }
@@ -118,31 +89,20 @@ pub(crate) fn compose(file: &[u8], full: &mut [u16], partial: &mut [u16]) -> Pag
     ensures text { λ r. ⌜ pageText r (now (full .exit)) (now (partial .exit)) ≡ text (now (file .entry)) ⌝ }
     ensures whole { λ r. ⌜ Whole r (now (full .exit)) (now (partial .exit)) ⌝ }
 {
-    let found = open(file);
-    let Opened::Tables(k) = found else {
-        return Page::Refused(refusal_of(found));
-    };
-    let demand = first_table(file, k, Entry::DEMAND);
-    let supply = first_table(file, k, Entry::SUPPLY);
-    if k <= demand {
-        return Page::Refused(Refusal::new(12, 0));
+    match ask(file) {
+        Asked::Refused(refusal) => Page::Refused(refusal),
+        Asked::Question(question) => {
+            let every = find(file, question, 0, full);
+            let some = find(file, question, 1, partial);
+            Page::Answered(Outcome {
+                bytes: file.len(),
+                tables: table_count(file),
+                question,
+                full: every,
+                partial: some,
+            })
+        }
     }
-    if k <= supply {
-        return Page::Refused(Refusal::new(12, 0));
-    }
-    let question = Question {
-        demand: start_side(file, demand),
-        supply: start_side(file, supply),
-    };
-    let every = find(file, question, 0, full);
-    let some = find(file, question, 1, partial);
-    Page::Answered(Outcome {
-        bytes: file.len(),
-        tables: k,
-        question,
-        full: every,
-        partial: some,
-    })
 }
 
 // Writes what a mode found, with its steps.

@@ -1,21 +1,21 @@
 -- Laws of lists, sums and largest values below a number, and of counts of pairs. Relies on nothing.
-use Prim.Native.Nat.{ℕ, zero, suc, _+_, _-_, _*_, _≤_, _<_, max}
+use Prim.Native.Nat.{ℕ, zero, suc, _+_, _-_, _*_, _/_, _%_, _≤_, _<_, max}
 use mathlib.Core.Path.{_≡_, refl, sym, ap, ap₂, _∙_, subst}
 use mathlib.Core.Bool.{Bool, true, false, not}
-use mathlib.Core.List.{List, [], _∷_, _++_, map, append-nil, append-assoc, List·Memᴰ, List·Memᴰ·head, Memᴰ·append-left, Memᴰ·append-right}
+use mathlib.Core.List.{List, [], _∷_, _++_, map, append-nil, append-assoc, List·Memᴰ, List·Memᴰ·head, List·Memᴰ·not-nil, List·Memᴰ·append-cases, Memᴰ·append-left, Memᴰ·append-right}
 use mathlib.Core.Logic.{_⊎_, inl, inr}
 use native.Mathlib.Omega.{arith}
-use native.Mathlib.Decide.{le-ind}
 use native.Mathlib.Nat.{mul-one, mul-le-mul-right}
 use lib.Dec.{T, not-T, leb, leb→le, nleb→lt, ltb, ltb→lt, nltb→le}
 use lib.ListN.{length, getD, length-append, List·getD-append}
 use lib.Seq.{getD-append-add, ext-getD}
-use lib.Arith.{digits-lt}
+use lib.Arith.{digits-lt, digits-div, digits-mod}
+use Rattle.rules.specs.Lists.{Pairwise}
 use Rattle.rules.specs.Below.{listBelow, listsBelow, sumBelow, maxBelow, one}
 use Rattle.rules.specs.Machines.{Machine}
-use Rattle.rules.specs.Rounds.{countPairs}
+use Rattle.rules.specs.Rounds.{countPairs, pairNumber}
 use Rattle.rules.proofs.Booleans.{T-or}
-use Rattle.rules.proofs.ListLaws.{map-append}
+use Rattle.rules.proofs.ListLaws.{map-append, pairwise-append}
 
 -- the product of two bytes is small
 pub small-product : (a b : ℕ) → a < 256 → b < 256 → a * b < 65536
@@ -24,6 +24,11 @@ small-product a b k l = let wide : a ≤ 255 = omega arith in omega (arith, mul-
 -- two tables have few pairs of states
 pub few-pairs : (a b : ℕ) → a ≤ 64 → b ≤ 64 → a * b ≤ 4096
 few-pairs a b k l = omega (arith, mul-le-mul-right b k)
+
+-- two pairs with the same number are the same pair
+pub same-pair : (n a b u v : ℕ) → b < n → v < n → pairNumber n a b ≡ pairNumber n u v → (a ≡ u) × (b ≡ v)
+same-pair n a b u v k l e =
+    (sym (digits-div a k) ∙ ap (λ (x : ℕ). x / n) e ∙ digits-div u l, sym (digits-mod a k) ∙ ap (λ (x : ℕ). x % n) e ∙ digits-mod u l)
 
 -- a number below n + 1 is below n or is n
 pub lt-cases : (j n : ℕ) → j < suc n → (j < n) ⊎ (j ≡ n)
@@ -59,12 +64,20 @@ module _ {A : Type 0} (f : ℕ → A) where
       go (inl k) more = Memᴰ·append-left (f n ∷ []) (more k)
       go (inr e) more = Memᴰ·append-right (listBelow n f) (List·Memᴰ·head (ap f e))
 
+  -- a list is made of two
+  pub listBelow-append : (m k : ℕ) → listBelow (m + k) f ≡ listBelow m f ++ listBelow k (λ i. f (m + i))
+  listBelow-append m zero = let e : m + 0 ≡ m = omega arith in rw e (sym (append-nil (listBelow m f)))
+  listBelow-append m (suc k) =
+      let e : m + suc k ≡ suc (m + k) = omega arith in
+      rw e
+      (ap (λ (z : List A). z ++ (f (m + k) ∷ [])) (listBelow-append m k)
+      ∙ append-assoc (listBelow m f) (listBelow k (λ i. f (m + i))) (f (m + k) ∷ []))
+
   -- a longer list starts with a shorter one
   pub listBelow-split : (i n : ℕ) → i ≤ n → (rest : List A) × (listBelow n f ≡ listBelow i f ++ rest)
-  listBelow-split i n l = le-ind (λ (m : ℕ). (rest : List A) × (listBelow m f ≡ listBelow i f ++ rest)) ([], sym (append-nil (listBelow i f))) further n l
-    where
-      further : (m : ℕ) → i ≤ m → (rest : List A) × (listBelow m f ≡ listBelow i f ++ rest) → (rest : List A) × (listBelow (suc m) f ≡ listBelow i f ++ rest)
-      further m k (rest, e) = (rest ++ (f m ∷ []), ap (λ (z : List A). z ++ (f m ∷ [])) e ∙ append-assoc (listBelow i f) rest (f m ∷ []))
+  listBelow-split i n l =
+      let e : n ≡ i + (n - i) = omega arith in
+      (listBelow (n - i) (λ j. f (i + j)), ap (λ (k : ℕ). listBelow k f) e ∙ listBelow-append i (n - i))
 
 pub listBelow-cong : {A : Type 0} (f g : ℕ → A) (n : ℕ) → ((i : ℕ) → i < n → f i ≡ g i) → listBelow n f ≡ listBelow n g
 listBelow-cong f g zero h = refl
@@ -73,6 +86,32 @@ listBelow-cong {A} f g (suc n) h = ap₂ (λ (l : List A) (x : A). l ++ (x ∷ [
 pub map-listBelow : {A B : Type 0} (g : A → B) (f : ℕ → A) (n : ℕ) → map g (listBelow n f) ≡ listBelow n (λ i. g (f i))
 map-listBelow g f zero = refl
 map-listBelow {A} {B} g f (suc n) = map-append g (listBelow n f) (f n ∷ []) ∙ ap (λ (l : List B). l ++ (g (f n) ∷ [])) (map-listBelow g f n)
+
+-- lists end to end hold what each of them holds
+module _ {A : Type 0} (f : ℕ → List A) where
+  pub mem-lists : (n : ℕ) {y : A} → List·Memᴰ y (listsBelow n f) → (i : ℕ) × (i < n) × List·Memᴰ y (f i)
+  mem-lists zero m = absurd (List·Memᴰ·not-nil m)
+  mem-lists (suc n) {y} m = go (List·Memᴰ·append-cases (listsBelow n f) m) (λ k. mem-lists n k)
+    where
+      go : List·Memᴰ y (listsBelow n f) ⊎ List·Memᴰ y (f n) → (List·Memᴰ y (listsBelow n f) → (i : ℕ) × (i < n) × List·Memᴰ y (f i))
+          → (i : ℕ) × (i < suc n) × List·Memᴰ y (f i)
+      go (inl k) more = let (i, h, j) = more k in (i, omega arith, j)
+      go (inr k) more = (n, omega arith, k)
+
+  pub lists-mem : (n i : ℕ) {y : A} → i < n → List·Memᴰ y (f i) → List·Memᴰ y (listsBelow n f)
+  lists-mem zero i h m = absurd (omega arith)
+  lists-mem (suc n) i {y} h m = go (lt-cases i n h) (λ k. lists-mem n i k m)
+    where
+      go : (i < n) ⊎ (i ≡ n) → (i < n → List·Memᴰ y (listsBelow n f)) → List·Memᴰ y (listsBelow n f ++ f n)
+      go (inl k) more = Memᴰ·append-left (f n) (more k)
+      go (inr e) more = Memᴰ·append-right (listsBelow n f) (subst (λ (k : ℕ). List·Memᴰ y (f k)) e m)
+
+  pub pairwise-lists : (R : A → A → Type 0) → ((i : ℕ) → Pairwise R (f i)) → ((i j : ℕ) → i < j → (x y : A) → List·Memᴰ x (f i) → List·Memᴰ y (f j) → R x y)
+      → (n : ℕ) → Pairwise R (listsBelow n f)
+  pairwise-lists R within across zero = tt
+  pairwise-lists R within across (suc n) =
+      pairwise-append R (listsBelow n f) (f n) (pairwise-lists R within across n) (within n)
+      (λ x y k m. let (i, h, j) = mem-lists n k in across i n h x y j m)
 
 -- lists of m, end to end: entry s of list t
 module _ (m : ℕ) (f : ℕ → ℕ → ℕ) where

@@ -147,6 +147,11 @@ module _ {A : Type 0} (p : A → Bool) where
   keepIf-append [] r = refl
   keepIf-append (x ∷ xs) r = ap (consIf (p x) x) (keepIf-append xs r) ∙ consIf-append (p x) x (keepIf p xs) (keepIf p r)
 
+  -- where none passes
+  pub keepIf-none : (l : List A) → any p l ≡ false → keepIf p l ≡ []
+  keepIf-none [] e = refl
+  keepIf-none (x ∷ xs) e = ap (λ (b : Bool). consIf b x (keepIf p xs)) (or-false-l (p x) (any p xs) e) ∙ keepIf-none xs (or-false-r (p x) (any p xs) e)
+
 -- ---- only the values at the elements matter
 
 module _ {A : Type 0} (p q : A → Bool) where
@@ -272,6 +277,36 @@ module _ {A B : Type 0} (Q : A → A → Type 0) (R : B → B → Type 0) where
     where
       later : (u v : B) → List·Memᴰ u (f x) → (z : A) × List·Memᴰ z xs × List·Memᴰ v (f z) → R u v
       later u v m (z, k, n) = across x z (p .0 z k) u v m n
+
+-- two lists in one strict order with the same elements are the same
+module _ {A : Type 0} (R : A → A → Type 0) (asym : (x y : A) → R x y → R y x → ⊥) where
+  pub one-order : (l r : List A) → Pairwise R l → Pairwise R r → ((x : A) → List·Memᴰ x l → List·Memᴰ x r) → ((x : A) → List·Memᴰ x r → List·Memᴰ x l) → l ≡ r
+  one-order [] [] p q f g = refl
+  one-order [] (y ∷ ys) p q f g = absurd (List·Memᴰ·not-nil (g y (List·Memᴰ·head refl)))
+  one-order (x ∷ xs) [] p q f g = absurd (List·Memᴰ·not-nil (f x (List·Memᴰ·head refl)))
+  one-order (x ∷ xs) (y ∷ ys) p q f g = ap₂ (λ (z : A) (zs : List A). z ∷ zs) same (one-order xs ys (p .1) (q .1) there back)
+    where
+      heads : (x ≡ y) ⊎ List·Memᴰ x ys → (y ≡ x) ⊎ List·Memᴰ y xs → x ≡ y
+      heads (inl e) k = e
+      heads (inr m) (inl e) = sym e
+      heads (inr m) (inr k) = absurd (asym x y (p .0 y k) (q .0 x m))
+
+      same : x ≡ y
+      same = heads (List·Memᴰ·cases-cons (f x (List·Memᴰ·head refl))) (List·Memᴰ·cases-cons (g y (List·Memᴰ·head refl)))
+
+      there : (z : A) → List·Memᴰ z xs → List·Memᴰ z ys
+      there z m = go (List·Memᴰ·cases-cons (f z (List·Memᴰ·tail m)))
+        where
+          go : (z ≡ y) ⊎ List·Memᴰ z ys → List·Memᴰ z ys
+          go (inl e) = let h : R x x = subst (R x) (e ∙ sym same) (p .0 z m) in absurd (asym x x h h)
+          go (inr k) = k
+
+      back : (z : A) → List·Memᴰ z ys → List·Memᴰ z xs
+      back z m = go (List·Memᴰ·cases-cons (g z (List·Memᴰ·tail m)))
+        where
+          go : (z ≡ x) ⊎ List·Memᴰ z xs → List·Memᴰ z xs
+          go (inl e) = let h : R y y = subst (R y) (e ∙ same) (q .0 z m) in absurd (asym y y h h)
+          go (inr k) = k
 
 -- ---- elements by their place
 

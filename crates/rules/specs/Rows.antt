@@ -1,16 +1,20 @@
--- Rows, moves and their numbers.
+-- Rows, moves and their numbers, and pairs of states.
 use Prim.Native.Nat.{ℕ}
 use mathlib.Core.Path.{_≡_}
 use mathlib.Core.Bool.{Bool, true, _&&_, _||_}
 use lib.Dec.{ltb, eqb}
 use Rattle.rules.specs.declared.Row.{Row}
 use Rattle.rules.specs.declared.Move.{Move}
+use Rattle.rules.specs.declared.Pair.{Pair}
 
 abbrev pub row : ℕ → ℕ → ℕ → Row
 row from target set = record { from = from; target = target; set = set }
 
 abbrev pub move : ℕ → ℕ → ℕ → Move
 move number set target = record { row = number; set = set; target = target }
+
+abbrev pub pair : ℕ → ℕ → Pair
+pair demand supply = record { demand = demand; supply = supply }
 
 -- 01, 'Tables': FIN has "one move: the empty set, back to FIN. Its idle row has the number 65,535."
 abbrev pub idle : Move

@@ -1,2 +1,3 @@
+pub mod LeadLaws
 pub mod RowLaws
 pub mod WalkLaws

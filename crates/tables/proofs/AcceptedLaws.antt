@@ -34,7 +34,7 @@ outside-low : (low high x : ℕ) → outside low high x ≡ false → low ≤ x
 unfolding outside
 outside-low low high x e = ltb-false x low (or-false-l (ltb x low) (ltb high x) e)
 
-outside-high : (low high x : ℕ) → outside low high x ≡ false → x ≤ high
+pub outside-high : (low high x : ℕ) → outside low high x ≡ false → x ≤ high
 unfolding outside
 outside-high low high x e = ltb-false high x (or-false-r (ltb x low) (ltb high x) e)
 

@@ -33,7 +33,7 @@ fn check_header(file: &[u8]) -> Checked
     if len < 2 {
         return fault_at(1, len);
     }
-    let k = reads::word(file, 0) as usize;
+    let k = reads::table_count(file);
     if is_outside(1, Limits::TABLES, k) {
         return fault_at(2, 0);
     }
@@ -172,7 +172,7 @@ pub(crate) fn check_file(file: &[u8]) -> Checked
     if let Checked::Fault(_) = header {
         return header;
     }
-    let k = reads::word(file, 0) as usize;
+    let k = reads::table_count(file);
     let contents = check_contents(file, k);
     if let Checked::Fault(_) = contents {
         return contents;

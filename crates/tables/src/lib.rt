@@ -1,4 +1,4 @@
-// The file of tables: opening it, the body of a table, and the readers of contents entries, of a table's n and of body rows. All are total.
+// The file of tables: opening it, the body of a table, and the readers of k, of contents entries, of a table's n and of body rows. All are total.
 // What an accepted file guarantees is `Accepted` in specs, shown in proofs/AcceptedLaws. Relies on `rules` for rows and limits.
 ghost use mathlib.Core.Path.{_≡_};
 ghost use Rattle.tables.specs.Checks.{refuse};
@@ -15,6 +15,7 @@ pub use reads::entry_at;
 pub use reads::entry_body;
 pub use reads::row_at;
 pub use reads::states_of;
+pub use reads::table_count;
 
 // Why a call is turned back: document 01's number, and the place at fault. 0 and 0 where it is carried out.
 pub struct Refusal {
@@ -48,7 +49,7 @@ pub fn open(file: &[u8]) -> Opened
 {
     match checks::check_file(file) {
         Checked::Fault(refusal) => Opened::Refused(refusal),
-        Checked::Passed => Opened::Tables(reads::word(file, 0) as usize),
+        Checked::Passed => Opened::Tables(table_count(file)),
     }
 }
 

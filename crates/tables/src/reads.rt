@@ -2,7 +2,7 @@
 ghost use mathlib.Core.Path.{_≡_};
 ghost use Prim.Native.Nat.{_+_, _*_};
 ghost use lib.ListN.{length};
-ghost use Rattle.tables.specs.File.{byteAt, wordAt, entryOf, bodyLength, rowOf};
+ghost use Rattle.tables.specs.File.{byteAt, wordAt, tablesOf, entryOf, bodyLength, rowOf};
 ghost use Rattle.tables.specs.Part.{PartOf, entrySpan};
 ghost use Rattle.tables.specs.Tables.{tableOf};
 use rules::Row;
@@ -41,13 +41,20 @@ fn little_endian(low: u8, high: u8) -> u16
 }
 
 // The little-endian number of two bytes.
-pub(crate) fn word(bytes: &[u8], at: usize) -> u16
+fn word(bytes: &[u8], at: usize) -> u16
     ensures { λ r. ⌜ r ≡ wordAt (now (bytes .entry)) at ⌝ }
 {
     if bytes.len() <= at {
         return 0;
     }
     little_endian(byte(bytes, at), byte(bytes, at + 1))
+}
+
+// The k of a file, the count of its tables.
+pub fn table_count(file: &[u8]) -> usize
+    ensures { λ r. ⌜ r ≡ tablesOf (now (file .entry)) ⌝ }
+{
+    word(file, 0) as usize
 }
 
 // Contents entry i of a file.

@@ -7,7 +7,7 @@ use Rattle.checker.proofs.DemandLaws.{demands}
 use borrow.Author.Needs.{needs}
 use Rattle.checker.proofs.decide.Statement.{statement}
 use Rattle.checker.proofs.decide.Tie as tie
-use Rattle.checker.proofs.pairs.check_decision.Reads as check-decision-reads
+use Rattle.questions.proofs.check_decision.Reads as check-decision-reads
 use Rattle.checker.proofs.pairs.write_marks.Reads as write-marks-reads
 
 check-decision-requires : tie.Need-check-decision-requires

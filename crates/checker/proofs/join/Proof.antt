@@ -7,7 +7,7 @@ use Rattle.checker.proofs.JoinLaws.{joined-table}
 use borrow.Author.Needs.{needs}
 use Rattle.checker.proofs.join.Statement.{statement}
 use Rattle.checker.proofs.join.Tie as tie
-use Rattle.checker.proofs.joining.check_join.Reads as check-join-reads
+use Rattle.questions.proofs.check_join.Reads as check-join-reads
 use Rattle.checker.proofs.joining.write_join.Reads as write-join-reads
 
 check-join-requires : tie.Need-check-join-requires

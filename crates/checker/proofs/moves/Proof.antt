@@ -7,7 +7,7 @@ use Rattle.checker.proofs.MovesLaws.{moves-shown}
 use borrow.Author.Needs.{needs}
 use Rattle.checker.proofs.moves.Statement.{statement}
 use Rattle.checker.proofs.moves.Tie as tie
-use Rattle.checker.proofs.pairs.check_pair.Reads as check-pair-reads
+use Rattle.questions.proofs.check_pair.Reads as check-pair-reads
 use Rattle.checker.proofs.pairs.write_moves.Reads as write-moves-reads
 
 check-pair-requires : tie.Need-check-pair-requires

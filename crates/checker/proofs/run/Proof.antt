@@ -7,7 +7,7 @@ use Rattle.checker.proofs.RunLaws.{decide-fault, run-turned-back, run-s
 use borrow.Author.Needs.{needs}
 use Rattle.checker.proofs.run.Statement.{statement}
 use Rattle.checker.proofs.run.Tie as tie
-use Rattle.checker.proofs.pairs.check_decision.Reads as check-decision-reads
+use Rattle.questions.proofs.check_decision.Reads as check-decision-reads
 use Rattle.checker.proofs.pairs.write_run.Reads as write-run-reads
 
 check-decision-requires : tie.Need-check-decision-requires

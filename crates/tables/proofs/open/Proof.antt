@@ -14,11 +14,8 @@ enum-known-refusal c = search needs
 enum-told : tie.Need-enum-told
 enum-told c = search needs
 
-word-requires : tie.Need-word-requires
-word-requires c κs = search needs
-
-cast-t6 : tie.Need-cast-t6
-cast-t6 c = search needs
+table-count-requires : tie.Need-table-count-requires
+table-count-requires c κs = search needs
 
 returns : tie.Need-returns
 unfolding openOf answer
@@ -26,7 +23,7 @@ returns c = simp (← (c .before .before .before .check-file .ensures), c .befor
 
 returns-2 : tie.Need-returns-2
 unfolding openOf answer
-returns-2 c = simp (← (c .before .before .before .check-file .ensures), c .before .enum-told .given .1, c .word .ensures)
+returns-2 c = simp (← (c .before .before .before .check-file .ensures), c .before .enum-told .given .1, c .table-count .ensures)
 
 pub open-spec : {M : Type 1} → statement M
 open-spec =
@@ -35,7 +32,6 @@ open-spec =
     check-file-requires
     enum-known-refusal
     enum-told
-    word-requires
-    cast-t6
+    table-count-requires
     returns
     returns-2)

@@ -1,7 +1,8 @@
 -- `checker::joining::write_join` meets its contract. The engine's answer decides.
 use native.Mathlib.Omega.{arith}
-use Rattle.checker.proofs.PairLaws.{table-loads}
-use Rattle.checker.proofs.JoinLaws.{first-at, second-at, product-is, two-demands, rows-found, write-answers}
+use Rattle.questions.proofs.PairLaws.{table-loads}
+use Rattle.questions.proofs.SizeLaws.{first-at, second-at}
+use Rattle.checker.proofs.JoinLaws.{product-is, two-demands, rows-found, write-answers}
 use borrow.Author.Needs.{needs}
 use Rattle.checker.proofs.joining.write_join.Statement.{statement}
 use Rattle.checker.proofs.joining.write_join.Tie as tie

@@ -2,14 +2,15 @@
 use native.Mathlib.Omega.{arith}
 use Rattle.tables.specs.Checks.{refuse}
 use Rattle.tables.proofs.CheckLaws.{turned-back}
+use Rattle.questions.proofs.PairLaws.{pairs-are}
+use Rattle.questions.proofs.ModeLaws.{mode-asked}
 use Rattle.checker.specs.Decide.{decideAnswer, decideSlice}
-use Rattle.checker.proofs.PairLaws.{pairs-are}
-use Rattle.checker.proofs.DecideLaws.{mode-asked, short-fault, decide-written}
+use Rattle.checker.proofs.DecideLaws.{short-fault, decide-written}
 use borrow.Author.Needs.{needs}
 use Rattle.checker.proofs.pairs.write_marks.Statement.{statement}
 use Rattle.checker.proofs.pairs.write_marks.Tie as tie
-use Rattle.checker.proofs.pairs.load_pair.Reads as load-pair-reads
-use Rattle.checker.proofs.pairs.mode_of.Reads as mode-of-reads
+use Rattle.questions.proofs.load_pair.Reads as load-pair-reads
+use Rattle.questions.proofs.mode_of.Reads as mode-of-reads
 use Rattle.machines.proofs.pair_count.Reads as pair-count-reads
 use Rattle.marks.proofs.mark_of.Reads as mark-of-reads
 use Rattle.marks.proofs.write.Reads as write-reads

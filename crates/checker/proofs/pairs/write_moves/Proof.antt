@@ -7,7 +7,7 @@ use Rattle.checker.proofs.MovesLaws.{survivors-found, short-fault, move
 use borrow.Author.Needs.{needs}
 use Rattle.checker.proofs.pairs.write_moves.Statement.{statement}
 use Rattle.checker.proofs.pairs.write_moves.Tie as tie
-use Rattle.checker.proofs.pairs.load_pair.Reads as load-pair-reads
+use Rattle.questions.proofs.load_pair.Reads as load-pair-reads
 use Rattle.moves.proofs.count.Reads as count-reads
 use Rattle.moves.proofs.write.Reads as write-reads
 use Rattle.tables.proofs.Refusal.new.Reads as new-reads

@@ -1,14 +1,15 @@
 -- `checker::pairs::write_run` meets its contract. The engine writes the marks and the run along them.
 use native.Mathlib.Omega.{arith}
 use Rattle.tables.specs.Checks.{refuse}
-use Rattle.checker.proofs.PairLaws.{pairs-are, pairs-few}
-use Rattle.checker.proofs.DecideLaws.{mode-asked, short-fault}
+use Rattle.questions.proofs.PairLaws.{pairs-are, pairs-few}
+use Rattle.questions.proofs.ModeLaws.{mode-asked}
+use Rattle.checker.proofs.DecideLaws.{short-fault}
 use Rattle.checker.proofs.RunLaws.{decide-fault, run-turned-back, steps-fault, run-starts, run-carried-out}
 use borrow.Author.Needs.{needs}
 use Rattle.checker.proofs.pairs.write_run.Statement.{statement}
 use Rattle.checker.proofs.pairs.write_run.Tie as tie
-use Rattle.checker.proofs.pairs.load_pair.Reads as load-pair-reads
-use Rattle.checker.proofs.pairs.mode_of.Reads as mode-of-reads
+use Rattle.questions.proofs.load_pair.Reads as load-pair-reads
+use Rattle.questions.proofs.mode_of.Reads as mode-of-reads
 use Rattle.machines.proofs.pair_count.Reads as pair-count-reads
 use Rattle.runs.proofs.write.Reads as write-reads
 use Rattle.tables.proofs.Refusal.new.Reads as new-reads

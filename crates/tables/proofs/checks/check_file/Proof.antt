@@ -26,16 +26,13 @@ returns c = then-stops _ _ _ _ (c .before .before .check-header .ensures) (c .en
 enum-told-2 : tie.Need-enum-told-2
 enum-told-2 c = search needs
 
-word-requires : tie.Need-word-requires
-word-requires c κs = search needs
-
-cast-k : tie.Need-cast-k
-cast-k c = search needs
+table-count-requires : tie.Need-table-count-requires
+table-count-requires c κs = search needs
 
 check-contents-requires : tie.Need-check-contents-requires
 check-contents-requires c κs =
     let header = header-passed (now (c .before .before .before .before .before .args .file)) (sym (c .before .before .before .check-header .ensures) ∙ c .before .enum-told2 .given .1) in
-    (omega (arith, header .few, c .word .ensures), c .word .ensures)
+    (omega (arith, header .few, c .table-count .ensures), c .table-count .ensures)
 
 enum-told-3 : tie.Need-enum-told-3
 enum-told-3 c = search needs
@@ -44,7 +41,7 @@ returns-2 : tie.Need-returns-2
 unfolding fileFault
 returns-2 c =
     let s = now (c .before .before .before .before .before .before .before .before .args .file) in
-    let contents = c .before .before .check-contents .ensures ∙ ap (λ (n : ℕ). scan (entryFault s) n then lengthFault s) (c .before .before .before .word .ensures) in
+    let contents = c .before .before .check-contents .ensures ∙ ap (λ (n : ℕ). scan (entryFault s) n then lengthFault s) (c .before .before .before .table-count .ensures) in
     then-goes _ _ _ _ (c .before .before .before .before .before .before .check-header .ensures) (c .before .before .before .before .enum-told2 .given .1)
     (then-stops _ _ _ _ contents (c .enum-told3 .given .1) ∙ then-assoc _ _ _)
 
@@ -54,19 +51,19 @@ enum-told-4 c = search needs
 check-bodies-requires : tie.Need-check-bodies-requires
 check-bodies-requires c κs =
     let s = now (c .before .before .before .before .before .before .before .before .args .file) in
-    let contents = c .before .before .check-contents .ensures ∙ ap (λ (n : ℕ). scan (entryFault s) n then lengthFault s) (c .before .before .before .word .ensures) in
+    let contents = c .before .before .check-contents .ensures ∙ ap (λ (n : ℕ). scan (entryFault s) n then lengthFault s) (c .before .before .before .table-count .ensures) in
     let passed : (scan (entryFault s) (tablesOf s) then lengthFault s) ≡ Passed = sym contents ∙ c .enum-told4 .given .1 in
-    rw (c .before .before .before .word .ensures) (laid s (sym (c .before .before .before .before .before .before .check-header .ensures) ∙ c .before .before .before .before .enum-told2 .given .1) (then-left _ _ passed) (then-right _ _ passed))
+    rw (c .before .before .before .table-count .ensures) (laid s (sym (c .before .before .before .before .before .before .check-header .ensures) ∙ c .before .before .before .before .enum-told2 .given .1) (then-left _ _ passed) (then-right _ _ passed))
 
 returns-3 : tie.Need-returns-3
 unfolding fileFault
 returns-3 c =
     let s = now (c .before .before .before .before .before .before .before .before .before .args .file) in
-    let contents = c .before .before .before .check-contents .ensures ∙ ap (λ (n : ℕ). scan (entryFault s) n then lengthFault s) (c .before .before .before .before .word .ensures) in
+    let contents = c .before .before .before .check-contents .ensures ∙ ap (λ (n : ℕ). scan (entryFault s) n then lengthFault s) (c .before .before .before .before .table-count .ensures) in
     let passed : (scan (entryFault s) (tablesOf s) then lengthFault s) ≡ Passed = sym contents ∙ c .before .enum-told4 .given .1 in
     then-goes _ _ _ _ (c .before .before .before .before .before .before .before .check-header .ensures) (c .before .before .before .before .before .enum-told2 .given .1)
     (then-goes _ _ _ _ refl (then-left _ _ passed)
-    (then-goes _ _ _ _ refl (then-right _ _ passed) (c .check-bodies .ensures ∙ ap (scan (bodyFault s)) (c .before .before .before .before .word .ensures))))
+    (then-goes _ _ _ _ refl (then-right _ _ passed) (c .check-bodies .ensures ∙ ap (scan (bodyFault s)) (c .before .before .before .before .table-count .ensures))))
 
 pub check-file-spec : {M : Type 1} → statement M
 check-file-spec =
@@ -76,8 +73,7 @@ check-file-spec =
     enum-told
     returns
     enum-told-2
-    word-requires
-    cast-k
+    table-count-requires
     check-contents-requires
     enum-told-3
     returns-2

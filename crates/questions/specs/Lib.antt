@@ -1,0 +1,5 @@
+pub mod Named
+pub mod Pairs
+pub mod Modes
+pub mod Sizes
+pub mod Questions
