@@ -1,5 +1,5 @@
 // Questions on standard input, for a program that answers them: the length in front of a question, and its parts, the numbers of its head and the
-// file. Relies on `questions` for what a question about a pair is, and on `io`.
+// file. What is read no contract states, and the case files hold it. Relies on `questions` for what a question about a pair is, and on `io`.
 ghost use Prim.Native.Nat.{_<_};
 use questions::Question;
 use questions::Side;

@@ -1,4 +1,5 @@
 -- `checker::pairs::write_graph` meets its contract. What is measured is what is written.
+use native.Mathlib.Omega.{arith}
 use Rattle.tables.specs.Checks.{refuse}
 use Rattle.tables.proofs.CheckLaws.{turned-back}
 use Rattle.checker.specs.Graph.{graphAnswer, graphSlice}
@@ -30,7 +31,7 @@ new-requires c κs = search needs
 
 returns : tie.Need-returns
 unfolding graphAnswer graphSlice
-returns c = rw (c .new .ensures) (turned-back _ (refuse 14 0) _ _ _ (text-short _ _ (c .before .before .before .before .before .before .before .before .before .before .before .before .before .pre) _ (text-found _ _ _ _ (c .before .before .before .before .before .before .before .before .load-pair .ensures .1 .0) _ (c .before .before .before .before .before .before .before .before .load-pair .ensures .0)) _ (c .before .before .before .measure .ensures .1) _ (c .before .if1 .taken)))
+returns c = rw (c .new .ensures) (turned-back _ (refuse 14 0) _ _ _ (text-short _ _ (c .before .before .before .before .before .before .before .before .before .before .before .before .before .pre) _ (text-found _ _ _ _ (c .before .before .before .before .before .before .before .before .load-pair .ensures .1 .0) _ (c .before .before .before .before .before .before .before .before .load-pair .ensures .0)) _ (c .before .before .before .measure .ensures .1) _ (let short = c .before .if1 .taken in omega arith)))
 
 slice-aggregate-write : tie.Need-slice-aggregate-write
 slice-aggregate-write c = search needs
@@ -45,7 +46,7 @@ same-length : tie.Need-same-length
 same-length c = search needs
 
 returns-2 : tie.Need-returns-2
-returns-2 c = graph-written _ _ (c .before .before .before .before .before .before .before .before .before .before .before .before .before .before .before .before .before .before .pre) _ (text-found _ _ _ _ (c .before .before .before .before .before .before .before .before .before .before .before .before .before .load-pair .ensures .1 .0) _ (c .before .before .before .before .before .before .before .before .before .before .before .before .before .load-pair .ensures .0)) _ (c .before .before .before .before .before .before .before .before .measure .ensures .1) _ _ (c .before .before .before .before .before .before .if1 .left) (c .before .before .write .ensures)
+returns-2 c = graph-written _ _ (c .before .before .before .before .before .before .before .before .before .before .before .before .before .before .before .before .before .before .pre) _ (text-found _ _ _ _ (c .before .before .before .before .before .before .before .before .before .before .before .before .before .load-pair .ensures .1 .0) _ (c .before .before .before .before .before .before .before .before .before .before .before .before .before .load-pair .ensures .0)) _ (c .before .before .before .before .before .before .before .before .measure .ensures .1) _ _ (let fits = c .before .before .before .before .before .before .if1 .left in omega arith) (c .before .before .write .ensures)
 
 pub write-graph-spec : {M : Type 1} → statement M
 write-graph-spec =
