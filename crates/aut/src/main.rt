@@ -1,6 +1,8 @@
 // The program for the viewer: reads standard input as a file of tables, and writes the graph of its first demand table beside its first supply table as
 // .aut text. Relies on `questions` for what is asked about the file, on `checker` for the text, on `lines` for the line of a refusal, on `rules` for the
 // limit, and on `io`. What it prints is held to the file `stdout` beside this folder, for the file `stdin`.
+#![tactic(auto)]
+
 ghost use Rattle.std.specs.Prelude.{◌≤◌, ◌≡◌, length};
 ghost use Rattle.rules.specs.Slices.{overwrite};
 ghost use Rattle.aut.specs.Aut.{refusal_text, graph_printed, aut_text, Printed};

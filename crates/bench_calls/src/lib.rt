@@ -1,5 +1,7 @@
 // Decide for a program in another language: the call that `bench/` measures. Nothing is asked of the caller. Relies on `checker` for the call. Request
 // L7 replaces this crate by the C calls that it asks for.
+#![tactic(auto)]
+
 ghost use Rattle.std.specs.Prelude.{◌≡◌, length};
 ghost use Rattle.checker.specs.Decide.{decide_answer, decide_slice};
 ghost use Rattle.bench_calls.specs.Packed.{asked, packed};

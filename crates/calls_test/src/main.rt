@@ -13,6 +13,8 @@
 // `lent::fill_bytes`. The readers answer with a line for the entry, one for the row and one for the bytes of the entry's body, the constants with one
 // line. A line with a single point ends each answer, and is all of it for a question shorter than a head, for another operation, and where a slice is
 // to have more than `lent::ROOM` entries. A question that is longer than `LONGEST`, or that the input ends in, ends the program.
+#![tactic(auto)]
+
 mod calls;
 mod lent;
 

@@ -3,6 +3,8 @@
 // file, on `questions` for what turns back a call before its engine runs and for loading the tables of a pair, on `machines` for loading those of a
 // join, and on the engines: `moves` for the surviving moves of a pair, `graphs` for those of all pairs as text, `marks` for the marks of all pairs,
 // `runs` for the run that shows a no, `joins` for the rows of a join.
+#![tactic(auto)]
+
 ghost use Rattle.std.specs.Prelude.{◌≡◌, length};
 ghost use Rattle.checker.specs.Calls.{counted, decided, joined};
 ghost use Rattle.checker.specs.Moves.{moves_answer, moves_slice};

@@ -1,5 +1,7 @@
 // Questions on standard input, for a program that answers them: the length in front of a question, and its parts, the numbers of its head and the
 // file. What is read no contract states, and the case files hold it. Relies on `questions` for what a question about a pair is, and on `io`.
+#![tactic(auto)]
+
 ghost use Rattle.std.specs.Prelude.{◌<◌};
 
 use questions::{Question, Side};

@@ -1,5 +1,7 @@
 // The lines that the program prints, of the numbers in them. Each function writes its piece from a place on, as far as the buffer reaches, and returns
 // the place behind it. Relies on `text` for words and numbers, and on `rules` for modes and the numbers of rows.
+#![tactic(auto)]
+
 ghost use Rattle.std.specs.Prelude.{◌+◌, ◌^◌, ◌<◌, ◌≡◌, ◌++◌, length};
 ghost use Rattle.rules.specs.Slices.{write_at};
 ghost use Rattle.text.specs.Text.{decimal};

@@ -1,6 +1,8 @@
 // Lines of decimal numbers on standard output, for a program that answers questions. A line is put together in a buffer, which is written out where it
 // is nearly full and at the line's end. Nothing is returned and nothing is changed; what is written no contract states, and the case files hold it.
 // Relies on `text` for numbers, and on `io`.
+#![tactic(auto)]
+
 ghost use Rattle.std.specs.Prelude.{◌<◌};
 
 const BUFFER: usize = 8192;

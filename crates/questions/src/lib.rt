@@ -2,6 +2,8 @@
 // join; the two machines that a question about a pair is about; and the question that the programs ask about a file. Only `load_pair` asks something
 // of its caller: that nothing turns the question back, and that there is room. Relies on `rules` for the meaning, on `tables` for the file, and on
 // `machines` for loading.
+#![tactic(auto)]
+
 ghost use Rattle.std.specs.Prelude.{◌≡◌, length, ◌≤◌};
 ghost use Rattle.tables.specs.declared.Checked.TheVariants.{Passed};
 ghost use Rattle.questions.specs.Pairs.{pair_checks, pair_of, PairLoaded};

@@ -1,6 +1,8 @@
 // The whole text that the program prints for a file of tables, written to a lent buffer. Nothing is asked of the caller. Relies on `questions` to open
 // the file and for what is asked about it, on `tables` for the count of its tables, on `checker` for the decisions and the runs, on `lines` for the
 // lines of the text, and on `rules` for the modes and limits.
+#![tactic(auto)]
+
 ghost use Rattle.std.specs.Prelude.{◌≡◌, length};
 ghost use Rattle.checker.specs.Calls.{counted};
 ghost use Rattle.report.specs.Report.{report_answer, report_bytes};

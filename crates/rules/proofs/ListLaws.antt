@@ -24,11 +24,11 @@ module _ {A : Type 0} (p : A → Bool) where
       go (inl h) more = (x, Memᴰ.head refl, h)
       go (inr h) more = ((more h).0, Memᴰ.tail (more h).1, (more h).2)
 
-  pub some_any : {l : List A} {x : A} → Memᴰ x l → T (p x) → T (any p l)
+  pub some_any : {x : A} {l : List A} → Memᴰ x l → T (p x) → T (any p l)
   some_any (Memᴰ.head {x = x} {xs = xs} e) t = or_l (p x) (any p xs) (subst (λ (z : A). T (p z)) e t)
   some_any (Memᴰ.tail {x = x} {xs = xs} m) t = or_r (p x) (any p xs) (some_any m t)
 
-  pub all-each : {l : List A} {x : A} → T (all p l) → Memᴰ x l → T (p x)
+  pub all-each : {x : A} {l : List A} → T (all p l) → Memᴰ x l → T (p x)
   all-each t (Memᴰ.head {x = x} {xs = xs} e) = subst (λ (z : A). T (p z)) (sym e) (and_l (p x) (all p xs) t)
   all-each t (Memᴰ.tail {x = x} {xs = xs} m) = all-each (and_r (p x) (all p xs) t) m
 
@@ -132,7 +132,7 @@ module _ {A : Type 0} where
   cons_if-append false x l r = refl
 
 module _ {A : Type 0} (p : A → Bool) where
-  pub keep_if-mem : {l : List A} {x : A} → Memᴰ x l → T (p x) → Memᴰ x (keep_if p l)
+  pub keep_if-mem : {x : A} {l : List A} → Memᴰ x l → T (p x) → Memᴰ x (keep_if p l)
   keep_if-mem (Memᴰ.head {x = x} {xs = xs} e) t = cons_if-head (p x) x (keep_if p xs) (subst (λ (z : A). T (p z)) e t) e
   keep_if-mem (Memᴰ.tail {x = x} m) t = cons_if-tail (p x) x (keep_if-mem m t)
 
@@ -175,7 +175,7 @@ module _ {A : Type 0} (p q : A → Bool) where
 -- ---- lists made of other lists' elements
 
 module _ {A B : Type 0} (f : A → B) where
-  pub map-mem : {l : List A} {x : A} → Memᴰ x l → Memᴰ (f x) (map f l)
+  pub map-mem : {x : A} {l : List A} → Memᴰ x l → Memᴰ (f x) (map f l)
   map-mem (Memᴰ.head e) = Memᴰ.head (ap f e)
   map-mem (Memᴰ.tail m) = Memᴰ.tail (map-mem m)
 
@@ -214,7 +214,7 @@ module _ {A B : Type 0} (f : A → List B) where
       go (inl h) more = (x, Memᴰ.head refl, h)
       go (inr n) more = ((more n).0, Memᴰ.tail (more n).1, (more n).2)
 
-  pub flat_map-mem : {l : List A} {x : A} {y : B} → Memᴰ x l → Memᴰ y (f x) → Memᴰ y (flat_map f l)
+  pub flat_map-mem : {x : A} {l : List A} {y : B} → Memᴰ x l → Memᴰ y (f x) → Memᴰ y (flat_map f l)
   unfolding flat_map
   flat_map-mem {y = y} (Memᴰ.head {x = x} {xs = xs} e) n = Memᴰ.append_left (flat_map f xs) (subst (λ (z : A). Memᴰ y (f z)) e n)
   flat_map-mem (Memᴰ.tail {x = x} m) n = Memᴰ.append_right (f x) (flat_map-mem m n)
@@ -317,7 +317,7 @@ module _ {A : Type 0} (d : A) where
   get_or-mem (x ∷ xs) zero h = Memᴰ.head refl
   get_or-mem (x ∷ xs) (suc i) h = Memᴰ.tail (get_or-mem xs i (omega arith))
 
-  pub mem_get_or : {l : List A} {x : A} → Memᴰ x l → (i : ℕ) × (i < length l) × (get_or l i d ≡ x)
+  pub mem_get_or : {x : A} {l : List A} → Memᴰ x l → (i : ℕ) × (i < length l) × (get_or l i d ≡ x)
   mem_get_or (Memᴰ.head e) = (0, omega arith, sym e)
   mem_get_or (Memᴰ.tail m) = let (i, h, e) = mem_get_or m in (suc i, omega arith, e)
 

@@ -1,6 +1,8 @@
 // The vocabulary of tables: rows, moves, pairs of states, the two modes, the limits, and the operations on sets of resources; and the meaning of it all.
 // Specs: sets of any width, machines, PADS, the surviving moves of a pair, the two relations, rounds and marks, runs, the steps that show a no,
 // joins, and the worked examples. Their theorems stand in proofs/. Relies on nothing.
+#![tactic(auto)]
+
 ghost use Rattle.std.specs.Prelude.{◌≡◌};
 ghost use Rattle.rules.specs.Sets.{difference, disjoint, left, consumed, unmet, inside, larger};
 ghost use Rattle.rules.specs.Rows.{row, move, idle, no_move, rises};

@@ -1,5 +1,7 @@
 // Runs the operations of `rules` on the sets of document 01's worked moves and on edges, and writes every answer.
 // The file `stdout` beside this folder has the answers that are due. Relies on `rules`.
+#![tactic(auto)]
+
 use rules::{Move, Row};
 
 // A part of the line: a word and a number.

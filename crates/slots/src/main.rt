@@ -1,5 +1,7 @@
 // The program: reads standard input as a file of tables, and writes the text that `report` makes of it. Relies on `report` for the text, on
 // `checker` for its answer, on `rules` for the limit, and on `io`. What it prints is held to the file `stdout` beside this folder, for the file `stdin`.
+#![tactic(auto)]
+
 ghost use Rattle.std.specs.Prelude.{◌≤◌, ◌≡◌, length};
 ghost use Rattle.rules.specs.Slices.{overwrite};
 ghost use Rattle.report.specs.Report.{text};

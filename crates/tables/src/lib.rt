@@ -1,5 +1,7 @@
 // The file of tables: opening it, the body of a table, and the readers of k, of contents entries, of a table's n and of body rows. All are total.
 // What an accepted file guarantees is `Accepted` in specs, shown in proofs/AcceptedLaws. Relies on `rules` for rows and limits.
+#![tactic(auto)]
+
 ghost use Rattle.std.specs.Prelude.{◌≡◌};
 ghost use Rattle.tables.specs.Checks.{refuse};
 ghost use Rattle.tables.specs.Answers.{refusal_of, opened};

@@ -1,6 +1,8 @@
 // Text in a lent buffer: a piece, or a number in decimal or hexadecimal, is written from a place on, as far as the buffer reaches, and the place behind
 // it is returned. So the same function counts a text, with the shortest of buffers, and writes it. Relies on `rules` for what a slice holds, and on `io`
 // for the digits of a decimal number.
+#![tactic(auto)]
+
 ghost use Rattle.std.specs.Prelude.{◌+◌, ◌^◌, ◌<◌, ◌≡◌, length};
 ghost use Rattle.rules.specs.Slices.{write_at};
 ghost use Rattle.text.specs.Text.{decimal, hex, hex_digit};
