@@ -23,14 +23,14 @@ mod pairs;
 pub use questions::{Question, Side};
 
 // What a call that writes a list answers: how many moves, steps or bytes there are, or why the call is turned back.
-#[derive(Drop)]
+#[derive(Clone, Copy)]
 pub enum Counted {
     Count(usize),
     Refused(Refusal),
 }
 
 // What Decide finds: yes or no for the start pair, the count kept, and rounds.
-#[derive(Drop)]
+#[derive(Clone, Copy)]
 pub struct Verdict {
     pub yes: bool,
     pub kept: u16,
@@ -38,21 +38,21 @@ pub struct Verdict {
 }
 
 // What Decide answers: its verdict, or why it is turned back.
-#[derive(Drop)]
+#[derive(Clone, Copy)]
 pub enum Decided {
     Answered(Verdict),
     Refused(Refusal),
 }
 
 // How large a table is: `states` is document 01's n, and `rows` its m.
-#[derive(Drop)]
+#[derive(Clone, Copy)]
 pub struct TableSize {
     pub states: usize,
     pub rows: usize,
 }
 
 // What Join answers: how large the joined table is, or why the call is turned back.
-#[derive(Drop)]
+#[derive(Clone, Copy)]
 pub enum Joined {
     Table(TableSize),
     Refused(Refusal),

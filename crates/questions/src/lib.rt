@@ -23,14 +23,14 @@ pub use programs::{Asked, ask};
 pub use sizes::check_join;
 
 // One side of a question: the number of a table, and a state of it.
-#[derive(Drop)]
+#[derive(Clone, Copy)]
 pub struct Side {
     pub table: usize,
     pub state: usize,
 }
 
 // What a call asks about: a state of a demand table beside a state of a supply table.
-#[derive(Drop)]
+#[derive(Clone, Copy)]
 pub struct Question {
     pub demand: Side,
     pub supply: Side,

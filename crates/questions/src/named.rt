@@ -5,7 +5,7 @@ ghost use Rattle.questions.specs.Named.{named_checks, as_demand, as_supply};
 use tables::{Checked, Entry, Opened, Refusal, entry_at, open, refusal_of};
 
 // A table that a call names: its number, and the kind that it has to be.
-#[derive(Drop)]
+#[derive(Clone, Copy)]
 pub struct Named {
     pub table: usize,
     pub kind: u8,

@@ -7,7 +7,7 @@ use rules::Row;
 use tables::{Entry, Opened, Refusal, entry_at, open, refusal_of, states_of};
 
 // What a program asks about a file, or why the file is turned back.
-#[derive(Drop)]
+#[derive(Clone, Copy)]
 pub enum Asked {
     Question(Question),
     Refused(Refusal),

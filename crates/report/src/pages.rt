@@ -20,7 +20,7 @@ const PAIRS: usize = Limits::STATES * Limits::STATES;
 pub(crate) const STEP_ENTRIES: usize = 2 * PAIRS;
 
 // What a mode finds: the verdict, and how many steps show a no.
-#[derive(Drop)]
+#[derive(Clone, Copy)]
 pub(crate) struct Found {
     pub verdict: Verdict,
     pub steps: usize,
@@ -39,7 +39,7 @@ impl Found {
 }
 
 // What the text tells of a file that has both kinds of table.
-#[derive(Drop)]
+#[derive(Clone, Copy)]
 pub(crate) struct Outcome {
     pub bytes: usize,
     pub tables: usize,
@@ -48,7 +48,7 @@ pub(crate) struct Outcome {
     pub partial: Found,
 }
 
-#[derive(Drop)]
+#[derive(Clone, Copy)]
 pub(crate) enum Page {
     Refused(Refusal),
     Answered(Outcome),

@@ -24,14 +24,14 @@ impl Limits {
 }
 
 // What is asked of the maximal responses to a supply move: full, every one leads to a kept pair; partial, at least one does.
-#[derive(Drop)]
+#[derive(Clone, Copy)]
 pub enum Mode {
     Full,
     Partial,
 }
 
 // A row of a table: in state `from`, the set is requested or granted, and the table goes to state `target`.
-#[derive(Drop)]
+#[derive(Clone, Copy)]
 pub struct Row {
     pub from: u8,
     pub target: u8,
@@ -69,7 +69,7 @@ impl Row {
 }
 
 // A move of a state: the number of its row, the row's set, and the state that it leads to.
-#[derive(Drop)]
+#[derive(Clone, Copy)]
 pub struct Move {
     pub row: u16,
     pub set: u16,
@@ -99,7 +99,7 @@ impl Move {
 }
 
 // A pair of states: one of the demand, one of the supply.
-#[derive(Drop)]
+#[derive(Clone, Copy)]
 pub struct Pair {
     pub demand: u8,
     pub supply: u8,

@@ -15,7 +15,7 @@ mod reads;
 pub use reads::{Entry, entry_at, entry_body, row_at, states_of, table_count};
 
 // Why a call is turned back: document 01's number, and the place at fault. 0 and 0 where it is carried out.
-#[derive(Drop)]
+#[derive(Clone, Copy)]
 pub struct Refusal {
     pub number: u8,
     pub place: usize,
@@ -30,14 +30,14 @@ impl Refusal {
 }
 
 // What a check finds.
-#[derive(Drop)]
+#[derive(Clone, Copy)]
 pub enum Checked {
     Passed,
     Fault(Refusal),
 }
 
 // What opening a file finds: the count of its tables, or why it is turned back.
-#[derive(Drop)]
+#[derive(Clone, Copy)]
 pub enum Opened {
     Tables(usize),
     Refused(Refusal),

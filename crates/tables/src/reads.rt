@@ -7,7 +7,7 @@ ghost use Rattle.tables.specs.Tables.{table_of};
 use rules::Row;
 
 // A contents entry: `states` is document 01's n, and `rows` its m.
-#[derive(Drop)]
+#[derive(Clone, Copy)]
 pub struct Entry {
     pub kind: u8,
     pub states: u8,

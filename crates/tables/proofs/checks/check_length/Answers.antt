@@ -1,0 +1,13 @@
+-- `tables::checks::check_length` meets its contract. The file ends where the bodies end, or the length is wrong.
+use borrow.Author.Tests.{lt-ltb, le-ltb, le-leb, lt-leb, eq-eqb, ne_eqb}
+use Rattle.tables.specs.Checks.{fault}
+use Rattle.tables.specs.Open.{length_fault}
+use Rattle.tables.proofs.checks.check_length.Goals as goal
+
+pub returns-then-len-end : goal.returns-then-len-end
+unfolding length_fault fault
+returns-then-len-end c = simp (← c.requires, ne_eqb _ _ c.if-len-end.true, c.fault_at.ensures)
+
+pub returns : goal.returns
+unfolding length_fault fault
+returns c = simp (← c.requires, eq-eqb _ _ c.if-len-end.false)
