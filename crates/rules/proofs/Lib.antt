@@ -1,3 +1,4 @@
+pub mod ClauseLaws
 pub mod Booleans
 pub mod ListLaws
 pub mod ExampleLaws

@@ -1,0 +1,36 @@
+-- `questions::named::check_named` meets its contract. What opening finds is handed on; then each answer is the first check that finds a fault.
+use mathlib.Core.Path.{refl, sym, ap, ◌∙◌}
+use borrow.Author.Tests.{le-leb, lt-leb, eq-eqb, ne_eqb}
+use Rattle.tables.specs.Checks.{fault, ◌then◌}
+use Rattle.tables.specs.Answers.{opened}
+use Rattle.tables.proofs.AcceptedLaws.{tables_passed, refused_fault}
+use Rattle.questions.specs.Named.{named_checks}
+use Rattle.tables.proofs.Refusal.new.Reads as new-reads
+use Rattle.tables.proofs.open.Reads as open-reads
+use Rattle.tables.proofs.entry_at.Reads as entry-at-reads
+use Rattle.tables.proofs.refusal_of.Reads as refusal-of-reads
+use Rattle.questions.proofs.named.check_named.Goals as goal
+
+pub returns-in_default : goal.returns-in_default
+unfolding named_checks ◌then◌
+returns-in_default c = rw (c.refusal_of.ensures, c.in_default.is, refused_fault c.args.file.now _ (ap opened (sym c.in_default.is) ∙ c.open-found.ensures)) refl
+
+pub returns-then-k-first : goal.returns-then-k-first
+unfolding named_checks ◌then◌ fault
+returns-then-k-first c = let t = tables_passed c.args.file.now _ (ap opened (sym c.in-Tables.is) ∙ c.open-found.ensures) in simp (t.0, t.1, le-leb _ _ c.if-k-first.true, c.new.ensures) refl
+
+pub returns-then-k-second : goal.returns-then-k-second
+unfolding named_checks ◌then◌ fault
+returns-then-k-second c = let t = tables_passed c.args.file.now _ (ap opened (sym c.in-Tables.is) ∙ c.open-found.ensures) in simp (t.0, t.1, lt-leb _ _ c.if-k-first.false, le-leb _ _ c.if-k-second.true, c.new-then-k-second.ensures) refl
+
+pub returns-then-entry_at-first : goal.returns-then-entry_at-first
+unfolding named_checks ◌then◌ fault
+returns-then-entry_at-first c = let t = tables_passed c.args.file.now _ (ap opened (sym c.in-Tables.is) ∙ c.open-found.ensures) in simp (t.0, t.1, ← c.entry_at.ensures, lt-leb _ _ c.if-k-first.false, lt-leb _ _ c.if-k-second.false, ne_eqb _ _ c.if-entry_at-first.true, c.new-then-entry_at-first.ensures) refl
+
+pub returns-then-entry_at-second : goal.returns-then-entry_at-second
+unfolding named_checks ◌then◌ fault
+returns-then-entry_at-second c = let t = tables_passed c.args.file.now _ (ap opened (sym c.in-Tables.is) ∙ c.open-found.ensures) in simp (t.0, t.1, ← c.entry_at.ensures, ← c.entry_at-2.ensures, lt-leb _ _ c.if-k-first.false, lt-leb _ _ c.if-k-second.false, eq-eqb _ _ c.if-entry_at-first.false, ne_eqb _ _ c.if-entry_at-second.true, c.new-then-entry_at-second.ensures) refl
+
+pub returns : goal.returns
+unfolding named_checks ◌then◌ fault
+returns c = let t = tables_passed c.args.file.now _ (ap opened (sym c.in-Tables.is) ∙ c.open-found.ensures) in simp (t.0, t.1, ← c.entry_at.ensures, ← c.entry_at-2.ensures, lt-leb _ _ c.if-k-first.false, lt-leb _ _ c.if-k-second.false, eq-eqb _ _ c.if-entry_at-first.false, eq-eqb _ _ c.if-entry_at-second.false) refl
