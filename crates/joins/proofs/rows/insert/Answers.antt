@@ -13,4 +13,4 @@ pub returns-then-count-eq-ROWS : goal.returns-then-count-eq-ROWS
 returns-then-count-eq-ROWS c = grows_past c.position-at.ensures c.if-count-eq-ROWS.true c.is_at.ensures c.if-is_at.false _ (omega arith)
 
 pub returns : goal.returns
-returns c = grows_put c.position-at.ensures (omega arith) c.is_at.ensures c.if-is_at.false (c.put.ensures.place, c.put.ensures.bytes)
+returns c = grows_put c.position-at.ensures (omega arith) c.is_at.ensures c.if-is_at.false c.put.ensures
