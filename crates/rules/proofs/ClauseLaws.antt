@@ -5,3 +5,6 @@ module _ {A B : Type 0} where
 
   pub as_answer_slice : A × B → record { answer : A; slice : B }
   as_answer_slice p = record { answer = p.0; slice = p.1 }
+
+  pub as_marks_rounds : A × B → record { marks : A; rounds : B }
+  as_marks_rounds p = record { marks = p.0; rounds = p.1 }
