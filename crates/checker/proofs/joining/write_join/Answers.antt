@@ -1,0 +1,29 @@
+-- `checker::joining::write_join` meets its contract. The engine's answer decides.
+use native.Mathlib.Omega.{arith}
+use Rattle.questions.proofs.PairLaws.{table_loads}
+use Rattle.questions.proofs.SizeLaws.{first_at, second_at}
+use Rattle.checker.proofs.JoinLaws.{product_is, two_demands, rows_found, write_answers}
+use Rattle.joins.proofs.write.Reads as write-reads
+use Rattle.machines.proofs.load_table.Reads as load-table-reads
+use Rattle.machines.proofs.pair_count.Reads as pair-count-reads
+use Rattle.tables.proofs.Refusal.new.Reads as new-reads
+use Rattle.rules.proofs.ClauseLaws.{as_answer_slice}
+use Rattle.checker.proofs.joining.write_join.Goals as goal
+
+pub load_table-requires : goal.load_table-requires
+load_table-requires c = table_loads _ _ _ (first_at _ _ _ c.requires) _ (omega arith)
+
+pub load_table-requires-2 : goal.load_table-requires-2
+load_table-requires-2 c = table_loads _ _ _ (second_at _ _ _ c.requires) _ (omega arith)
+
+pub write-requires : goal.write-requires
+write-requires c = two_demands _ _ _ c.requires _ c.load_table.ensures.machine _ c.load_table-2.ensures.machine c.load_table.ensures.kept c.load_table-2.ensures.kept
+
+pub returns-in-TooMany : goal.returns-in-TooMany
+returns-in-TooMany c = rw c.new.ensures (as_answer_slice (write_answers _ _ _ c.requires _ (product_is _ _ _ c.requires _ c.load_table.ensures.machine _ c.load_table-2.ensures.machine c.pair_count-states.ensures) _ _ _ (rows_found _ _ _ c.requires _ c.load_table.ensures.machine _ c.load_table-2.ensures.machine) c.write.ensures.answer c.write.ensures.slice c.in-TooMany.is))
+
+pub returns-in-NoRoom : goal.returns-in-NoRoom
+returns-in-NoRoom c = rw c.new-in-NoRoom.ensures (as_answer_slice (write_answers _ _ _ c.requires _ (product_is _ _ _ c.requires _ c.load_table.ensures.machine _ c.load_table-2.ensures.machine c.pair_count-states.ensures) _ _ _ (rows_found _ _ _ c.requires _ c.load_table.ensures.machine _ c.load_table-2.ensures.machine) c.write.ensures.answer c.write.ensures.slice c.in-NoRoom.is))
+
+pub returns-in-Count : goal.returns-in-Count
+returns-in-Count c = as_answer_slice (write_answers _ _ _ c.requires _ (product_is _ _ _ c.requires _ c.load_table.ensures.machine _ c.load_table-2.ensures.machine c.pair_count-states.ensures) _ _ _ (rows_found _ _ _ c.requires _ c.load_table.ensures.machine _ c.load_table-2.ensures.machine) c.write.ensures.answer c.write.ensures.slice c.in-Count.is)
