@@ -1,8 +1,8 @@
 -- Open accepts a file of k tables exactly if `Accepted` holds of it. Relies on the laws of checks and fields.
 use Prim.Native.Nat.{ℕ, zero, suc, ◌+◌, ◌*◌, ◌-◌, ◌≤◌, ◌<◌}
-use mathlib.Core.Path.{◌≡◌, refl, sym, ◌∙◌, ap, subst}
+use mathlib.Core.Path.{◌≡◌, refl, sym, ◌∙◌, ap}
 use mathlib.Core.List.{List, [], ◌∷◌}
-use mathlib.Core.Bool.{Bool, true, false, not, ◌||◌, ◌&&◌}
+use mathlib.Core.Bool.{true, false, not, ◌||◌}
 use mathlib.Core.Logic.{⊎_elim}
 use native.Mathlib.Nat.{le_of_suc-le-suc, eq-or-lt_of_le}
 use native.Mathlib.Omega.{arith}
@@ -15,9 +15,8 @@ use Rattle.rules.proofs.RowLaws.{rises_trans}
 use Rattle.tables.specs.declared.Refusal.{Refusal}
 use Rattle.tables.specs.declared.Checked.{Checked}
 use Rattle.tables.specs.declared.Checked.TheVariants.{Passed, Fault}
-use Rattle.tables.specs.declared.Opened.{Opened}
 use Rattle.tables.specs.declared.Opened.TheVariants.{Tables, Refused}
-use Rattle.tables.specs.Checks.{fault, ◌then◌, scan}
+use Rattle.tables.specs.Checks.{scan}
 use Rattle.tables.specs.Answers.{Answer, answer, refusal_of, opened, carried_out}
 use Rattle.tables.specs.File.{tables_of, entry_place, entry_of, body_length, end_before, body_of, row_of}
 use Rattle.tables.specs.Open.{outside, header_fault, entry_fault, length_fault, is_above, row_fault, body_fault, file_fault, open_of}

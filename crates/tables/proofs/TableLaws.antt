@@ -1,20 +1,19 @@
 -- Laws of the tables of an accepted file: their machines are sound, their rows rise by from-state, and their sets are 16 bits, so that 16 resources
 -- settle inclusion and maximality. Relies on what Open guarantees.
-use Prim.Native.Nat.{ℕ, ◌+◌, ◌*◌, ◌/◌, ◌≤◌, ◌<◌}
-use mathlib.Core.Path.{◌≡◌, refl, sym, ap, ◌∙◌, subst}
-use mathlib.Core.Bool.{Bool, true}
+use Prim.Native.Nat.{ℕ, ◌+◌, ◌≤◌, ◌<◌}
+use mathlib.Core.Path.{◌≡◌, sym, subst}
 use mathlib.Core.List.{List, Memᴰ}
 use mathlib.Core.Logic.{◌⊎◌, inl, inr}
 use native.Mathlib.Omega.{arith}
 use native.Mathlib.Nat.{eq-or-lt_of_le}
 use lib.Dec.{T, ltb, ltb→lt, nltb→le, not_T}
-use lib.ListN.{length, get_or, take, drop, length-take, get_or-eq_default}
+use lib.ListN.{length, take, drop, length-take, get_or-eq_default}
 use lib.Seq.{get_or-take, get_or-drop}
 use Rattle.rules.specs.declared.Row.{Row}
 use Rattle.rules.specs.declared.Move.{Move}
-use Rattle.rules.specs.Rows.{row, idle}
+use Rattle.rules.specs.Rows.{row}
 use Rattle.rules.specs.Sets.{has, inside, larger, maximal}
-use Rattle.rules.specs.Machines.{Sound, Table, machine, IsMove, IsTableMove, idles, takes}
+use Rattle.rules.specs.Machines.{Sound, machine, IsMove, IsTableMove, idles, takes}
 use Rattle.rules.specs.Rounds.{sets}
 use Rattle.rules.proofs.Booleans.{T-or}
 use Rattle.rules.proofs.BelowLaws.{length-list_below, get_or-list_below}
@@ -25,7 +24,7 @@ use Rattle.rules.proofs.MachineLaws.{table_sound, table_moves_lem}
 use Rattle.rules.proofs.RowLaws.{rises_from}
 use Rattle.tables.specs.File.{byte_at, entry_of, body_length, body_of, row_of}
 use Rattle.tables.specs.Accepted.{TableBody, Accepted}
-use Rattle.tables.specs.Tables.{rows_of, table_of, machine_of}
+use Rattle.tables.specs.Tables.{rows_of, machine_of}
 use Rattle.tables.proofs.FileLaws.{set_below}
 use Rattle.tables.proofs.AcceptedLaws.{rows_rise}
 

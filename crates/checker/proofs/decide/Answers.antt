@@ -4,8 +4,6 @@ use Rattle.tables.proofs.CheckLaws.{then_fault, turned_back_lem}
 use Rattle.checker.specs.declared.Decided.TheVariants.{Refused}
 use Rattle.checker.specs.Decide.{decide_checks, decide_answer, decide_slice}
 use Rattle.checker.proofs.DemandLaws.{demands}
-use Rattle.questions.proofs.check_decision.Reads as check-decision-reads
-use Rattle.checker.proofs.pairs.write_marks.Reads as write-marks-reads
 use Rattle.rules.proofs.ClauseLaws.{as_answer_slice_demands}
 use Rattle.checker.proofs.decide.Goals as goal
 

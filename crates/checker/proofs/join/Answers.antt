@@ -4,8 +4,6 @@ use Rattle.tables.proofs.CheckLaws.{then_fault, turned_back_lem}
 use Rattle.checker.specs.declared.Joined.TheVariants.{Refused}
 use Rattle.checker.specs.Join.{join_checks, join_answer, join_slice}
 use Rattle.checker.proofs.JoinLaws.{joined_table}
-use Rattle.questions.proofs.check_join.Reads as check-join-reads
-use Rattle.checker.proofs.joining.write_join.Reads as write-join-reads
 use Rattle.rules.proofs.ClauseLaws.{as_answer_slice_demands}
 use Rattle.checker.proofs.join.Goals as goal
 

@@ -4,8 +4,6 @@ use Rattle.tables.proofs.CheckLaws.{then_fault, turned_back_lem}
 use Rattle.checker.specs.declared.Counted.TheVariants.{Refused}
 use Rattle.checker.specs.Moves.{moves_checks, moves_answer, moves_slice}
 use Rattle.checker.proofs.MovesLaws.{moves_shown}
-use Rattle.questions.proofs.check_pair.Reads as check-pair-reads
-use Rattle.checker.proofs.pairs.write_moves.Reads as write-moves-reads
 use Rattle.rules.proofs.ClauseLaws.{as_answer_slice_demands}
 use Rattle.checker.proofs.moves.Goals as goal
 

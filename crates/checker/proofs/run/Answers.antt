@@ -4,8 +4,6 @@ use Rattle.tables.proofs.CheckLaws.{then_fault}
 use Rattle.checker.specs.declared.Counted.TheVariants.{Refused}
 use Rattle.checker.specs.Decide.{decide_checks}
 use Rattle.checker.proofs.RunLaws.{decide_fault, run_turned_back, run_shown}
-use Rattle.questions.proofs.check_decision.Reads as check-decision-reads
-use Rattle.checker.proofs.pairs.write_run.Reads as write-run-reads
 use Rattle.rules.proofs.ClauseLaws.{as_answer_marks_steps_demands}
 use Rattle.checker.proofs.run.Goals as goal
 

@@ -1,5 +1,4 @@
 -- `lines::put_steps` meets its contract. The invariant: the lines still to come, written to the buffer as it is, give all lines written.
-use Prim.Native.Nat.{◌-◌}
 use mathlib.Core.Path.{ap, ◌∙◌}
 use native.Mathlib.Omega.{arith}
 use lib.ListN.{length}

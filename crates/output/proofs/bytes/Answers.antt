@@ -1,5 +1,4 @@
 -- `output::bytes` is safe and ends. The buffer keeps its length.
-use Prim.Native.Nat.{◌-◌}
 use mathlib.Core.Path.{refl}
 use native.Mathlib.Omega.{arith}
 use Rattle.output.proofs.bytes.Goals as goal

@@ -1,5 +1,4 @@
 -- `output::entries` is safe and ends. The buffer keeps its length.
-use Prim.Native.Nat.{◌-◌}
 use mathlib.Core.Path.{refl}
 use native.Mathlib.Omega.{arith}
 use Rattle.output.proofs.entries.Goals as goal

@@ -2,7 +2,6 @@
 use native.Mathlib.Omega.{arith}
 use mathlib.Core.Path.{refl}
 use Rattle.questions.proofs.PairLaws.{asked_demand, asked_supply, state_narrow, table_loads, pair_loaded}
-use Rattle.machines.proofs.load_table.Reads as load-table-reads
 use Rattle.questions.proofs.load_pair.Goals as goal
 
 pub load_table-requires : goal.load_table-requires

@@ -5,9 +5,6 @@ use Rattle.tables.specs.Body.{body_span}
 use Rattle.tables.proofs.FileLaws.{span_within}
 use Rattle.tables.proofs.BodyLaws.{body_refused, body_missing, body_there}
 use Rattle.tables.proofs.AcceptedLaws.{opened_laid}
-use Rattle.tables.proofs.open.Reads as open-reads
-use Rattle.tables.proofs.reads.entry_at.Reads as entry-at-reads
-use Rattle.tables.proofs.reads.entry_body.Reads as entry-body-reads
 use Rattle.tables.proofs.body.Goals as goal
 
 pub returns-in_default : goal.returns-in_default

@@ -1,6 +1,4 @@
 -- `tables::refusal_of` meets its contract. By the case of the answer.
-use mathlib.Core.Path.{ap, sym, ◌∙◌}
-use Rattle.tables.specs.Answers.{refusal_of, opened}
 use Rattle.tables.proofs.refusal_of.Goals as goal
 
 pub returns-in-Refused : goal.returns-in-Refused

@@ -2,8 +2,7 @@
 use mathlib.Core.Path.{refl, ap, ◌∙◌}
 use native.Mathlib.Omega.{arith}
 use lib.ListN.{length}
-use Prim.Native.Nat.{◌≤◌, ◌-◌}
-use Rattle.text.proofs.TextLaws.{Ahead, ahead_none, ahead_written, ahead_past, ahead_all}
+use Rattle.text.proofs.TextLaws.{ahead_none, ahead_written, ahead_past, ahead_all}
 use Rattle.rules.proofs.SliceLaws.{length-write_at}
 use Rattle.text.proofs.put.Goals as goal
 use Rattle.text.proofs.put.Goals.{then-place-out, else-place-out}
@@ -18,12 +17,13 @@ pub bounds-piece-i : goal.bounds-piece-i
 bounds-piece-i c = c.loop-i-test.true
 
 pub loop-i-preserved : goal.loop-i-preserved
-loop-i-preserved c =
-    ( omega arith
-    , elim c.if-place-out.branch
-        [ then-place-out w ↦ rw w.out-is (ahead_written c.loop-i.invariant.1 c.loop-i-test.true)
-        | else-place-out w ↦ rw w.out-is (ahead_past c.loop-i.invariant.1 c.loop-i-test.true w.if-place-out.false) ]
-    )
+loop-i-preserved c = (
+  omega arith,
+  elim c.if-place-out.branch [
+    | then-place-out w ↦ rw w.out-is (ahead_written c.loop-i.invariant.1 c.loop-i-test.true)
+    | else-place-out w ↦ rw w.out-is (ahead_past c.loop-i.invariant.1 c.loop-i-test.true w.if-place-out.false)
+  ],
+)
 
 pub overflow_add-result : goal.overflow_add-result
 overflow_add-result c = let room = c.requires in omega arith

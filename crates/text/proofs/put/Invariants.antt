@@ -1,11 +1,7 @@
 -- `text::put` meets its contract. The invariant: the bytes still to come, written to the buffer as it is, give the whole piece written.
-use mathlib.Core.Path.{refl, ap, ◌∙◌}
-use mathlib.Core.Logic.{⊎_elim}
-use native.Mathlib.Omega.{arith}
 use lib.ListN.{length}
 use Prim.Native.Nat.{◌≤◌, ◌-◌}
-use Rattle.text.proofs.TextLaws.{Ahead, ahead_none, ahead_written, ahead_past, ahead_all}
-use Rattle.rules.proofs.SliceLaws.{length-write_at}
+use Rattle.text.proofs.TextLaws.{Ahead}
 use Rattle.text.proofs.put.Given as goal
 
 abbrev pub invariant-loop-i : goal.invariant-loop-i

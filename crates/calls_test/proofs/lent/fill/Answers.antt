@@ -1,5 +1,4 @@
 -- `calls_test::lent::fill` is safe and ends. The slice keeps its length.
-use Prim.Native.Nat.{◌-◌}
 use mathlib.Core.Path.{refl}
 use native.Mathlib.Omega.{arith}
 use lib.ListN.{length-set}

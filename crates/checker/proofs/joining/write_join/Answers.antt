@@ -3,10 +3,6 @@ use native.Mathlib.Omega.{arith}
 use Rattle.questions.proofs.PairLaws.{table_loads}
 use Rattle.questions.proofs.SizeLaws.{first_at, second_at}
 use Rattle.checker.proofs.JoinLaws.{product_is, two_demands, rows_found, write_answers}
-use Rattle.joins.proofs.write.Reads as write-reads
-use Rattle.machines.proofs.load_table.Reads as load-table-reads
-use Rattle.machines.proofs.pair_count.Reads as pair-count-reads
-use Rattle.tables.proofs.Refusal.new.Reads as new-reads
 use Rattle.rules.proofs.ClauseLaws.{as_answer_slice}
 use Rattle.checker.proofs.joining.write_join.Goals as goal
 

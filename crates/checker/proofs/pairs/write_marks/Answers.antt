@@ -6,12 +6,6 @@ use Rattle.questions.proofs.PairLaws.{pairs_are}
 use Rattle.questions.proofs.ModeLaws.{mode_asked}
 use Rattle.checker.specs.Decide.{decide_answer, decide_slice}
 use Rattle.checker.proofs.DecideLaws.{short_fault, decide_written}
-use Rattle.questions.proofs.load_pair.Reads as load-pair-reads
-use Rattle.questions.proofs.mode_of.Reads as mode-of-reads
-use Rattle.machines.proofs.pair_count.Reads as pair-count-reads
-use Rattle.marks.proofs.mark_of.Reads as mark-of-reads
-use Rattle.marks.proofs.write.Reads as write-reads
-use Rattle.tables.proofs.Refusal.new.Reads as new-reads
 use Rattle.rules.proofs.ClauseLaws.{as_answer_slice}
 use Rattle.checker.proofs.pairs.write_marks.Goals as goal
 

@@ -4,10 +4,6 @@ use Rattle.tables.specs.Checks.{refuse}
 use Rattle.tables.proofs.CheckLaws.{turned_back_lem}
 use Rattle.checker.specs.Moves.{moves_answer, moves_slice}
 use Rattle.checker.proofs.MovesLaws.{survivors_found, short_fault, moves_written}
-use Rattle.questions.proofs.load_pair.Reads as load-pair-reads
-use Rattle.moves.proofs.count.Reads as count-reads
-use Rattle.moves.proofs.write.Reads as write-reads
-use Rattle.tables.proofs.Refusal.new.Reads as new-reads
 use Rattle.rules.proofs.ClauseLaws.{as_answer_slice}
 use Rattle.checker.proofs.pairs.write_moves.Goals as goal
 

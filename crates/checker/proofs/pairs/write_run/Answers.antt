@@ -5,11 +5,6 @@ use Rattle.questions.proofs.PairLaws.{pairs_are, pairs_few}
 use Rattle.questions.proofs.ModeLaws.{mode_asked}
 use Rattle.checker.proofs.DecideLaws.{short_fault}
 use Rattle.checker.proofs.RunLaws.{decide_fault, run_turned_back, steps_fault, run_starts, run_carried_out}
-use Rattle.questions.proofs.load_pair.Reads as load-pair-reads
-use Rattle.questions.proofs.mode_of.Reads as mode-of-reads
-use Rattle.machines.proofs.pair_count.Reads as pair-count-reads
-use Rattle.runs.proofs.write.Reads as write-reads
-use Rattle.tables.proofs.Refusal.new.Reads as new-reads
 use Rattle.rules.proofs.ClauseLaws.{as_answer_marks_steps}
 use Rattle.checker.proofs.pairs.write_run.Goals as goal
 

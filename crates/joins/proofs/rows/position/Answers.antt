@@ -1,5 +1,4 @@
 -- `joins::rows::position` meets its contract. The invariant: the rows from `start` to i come before the row.
-use Prim.Native.Nat.{◌-◌}
 use Rattle.joins.proofs.RowLaws.{before_none, before_next, before_found, before_done}
 use Rattle.std.proofs.lemmas.Bool.{not_from_false, not_from_true}
 use Rattle.joins.proofs.rows.position.Goals as goal

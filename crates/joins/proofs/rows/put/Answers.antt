@@ -1,5 +1,4 @@
 -- `joins::rows::put` meets its contract. The invariant: the rows from i on stand one higher.
-use Prim.Native.Nat.{◌-◌}
 use mathlib.Core.Path.{ap, ◌∙◌}
 use native.Mathlib.Omega.{arith}
 use lib.ListN.{length}

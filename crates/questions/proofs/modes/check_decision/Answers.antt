@@ -2,11 +2,9 @@
 use mathlib.Core.Path.{refl}
 use native.Mathlib.Omega.{arith}
 use borrow.Author.Tests.{lt-ltb, le-ltb}
-use Rattle.tables.specs.Checks.{fault, ◌then◌}
+use Rattle.tables.specs.Checks.{fault}
 use Rattle.tables.proofs.CheckLaws.{then_stops, then_goes}
 use Rattle.questions.specs.Modes.{mode_checks}
-use Rattle.questions.proofs.check_pair.Reads as check-pair-reads
-use Rattle.tables.proofs.Refusal.new.Reads as new-reads
 use Rattle.questions.proofs.modes.check_decision.Goals as goal
 
 pub returns-in-Fault : goal.returns-in-Fault

@@ -5,10 +5,6 @@ use Rattle.tables.specs.Checks.{fault, ◌then◌}
 use Rattle.tables.specs.Answers.{opened}
 use Rattle.tables.proofs.AcceptedLaws.{tables_passed, refused_fault}
 use Rattle.questions.specs.Named.{named_checks}
-use Rattle.tables.proofs.Refusal.new.Reads as new-reads
-use Rattle.tables.proofs.open.Reads as open-reads
-use Rattle.tables.proofs.entry_at.Reads as entry-at-reads
-use Rattle.tables.proofs.refusal_of.Reads as refusal-of-reads
 use Rattle.questions.proofs.named.check_named.Goals as goal
 
 pub returns-in_default : goal.returns-in_default

@@ -1,5 +1,4 @@
 -- `questions::programs::first_table` meets its contract. The invariant: none of the tables that were looked at is of the kind.
-use Prim.Native.Nat.{◌-◌}
 use mathlib.Core.Path.{sym, ap, ◌∙◌}
 use native.Mathlib.Omega.{arith}
 use Rattle.tables.specs.declared.reads.Entry.{Entry}

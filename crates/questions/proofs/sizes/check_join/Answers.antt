@@ -8,10 +8,6 @@ use Rattle.tables.specs.Checks.{fault}
 use Rattle.tables.proofs.CheckLaws.{then_stops, then_goes}
 use Rattle.questions.specs.Named.{named_checks}
 use Rattle.questions.specs.Sizes.{size_checks}
-use Rattle.questions.proofs.named.Named.demand.Reads as demand-reads
-use Rattle.questions.proofs.named.check_named.Reads as check-named-reads
-use Rattle.tables.proofs.Refusal.new.Reads as new-reads
-use Rattle.tables.proofs.states_of.Reads as states-of-reads
 use Rattle.questions.proofs.sizes.check_join.Goals as goal
 
 pub returns-in-Fault : goal.returns-in-Fault

@@ -1,5 +1,4 @@
 -- `runs::responses::first_that_leads` meets its contract. The invariant: no move before p passes.
-use Prim.Native.Nat.{◌-◌}
 use mathlib.Core.Path.{refl, sym}
 use native.Mathlib.Omega.{arith}
 use lib.Seq.{length-take-le}
@@ -27,12 +26,13 @@ pub returns-then-is_top : goal.returns-then-is_top
 returns-then-is_top c = found_at _ c.loop-p.invariant.1 c.loop-p-test.true c.move_at-taken.ensures (rw (← c.is_top.ensures, c.if-is_top.true, ← c.does_lead.ensures, c.if-does_lead.true) refl)
 
 pub loop-p-preserved : goal.loop-p-preserved
-loop-p-preserved c =
-    ( omega arith
-    , elim c.if-does_lead.branch
-        [ then-does_lead+else-is_top w ↦ none_next c.loop-p.invariant.1 c.move_at-taken.ensures refl (rw (← w.is_top.ensures, w.if-is_top.false) refl)
-        | else-does_lead w ↦ none_next c.loop-p.invariant.1 c.move_at-taken.ensures refl (rw (← c.does_lead.ensures, w.if-does_lead.false, and_none) refl) ]
-    )
+loop-p-preserved c = (
+  omega arith,
+  elim c.if-does_lead.branch [
+    | then-does_lead+else-is_top w ↦ none_next c.loop-p.invariant.1 c.move_at-taken.ensures refl (rw (← w.is_top.ensures, w.if-is_top.false) refl)
+    | else-does_lead w ↦ none_next c.loop-p.invariant.1 c.move_at-taken.ensures refl (rw (← c.does_lead.ensures, w.if-does_lead.false, and_none) refl)
+  ],
+)
 
 pub returns : goal.returns
 returns c = ended_at _ c.loop-p.invariant.1 (omega arith) (omega arith)

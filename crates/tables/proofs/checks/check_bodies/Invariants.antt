@@ -1,13 +1,9 @@
 -- `tables::checks::check_bodies` meets its contract. The invariant: the bodies before i have passed.
-use Prim.Native.Nat.{◌+◌, ◌-◌, ◌≤◌}
-use mathlib.Core.Path.{◌≡◌, ◌∙◌, sym}
-use native.Mathlib.Omega.{arith}
+use Prim.Native.Nat.{◌-◌, ◌≤◌}
+use mathlib.Core.Path.{◌≡◌}
 use Rattle.tables.specs.declared.Checked.TheVariants.{Passed}
 use Rattle.tables.specs.Checks.{scan}
 use Rattle.tables.specs.Open.{body_fault}
-use Rattle.tables.specs.File.{body_length}
-use Rattle.tables.proofs.CheckLaws.{scan_none, scan_next, scan_stops, scan_done}
-use Rattle.tables.proofs.FileLaws.{body_checks_lem}
 use Rattle.tables.proofs.checks.check_bodies.Given as goal
 
 abbrev pub invariant-loop-i : goal.invariant-loop-i

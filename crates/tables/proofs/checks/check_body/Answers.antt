@@ -7,8 +7,6 @@ use Rattle.tables.specs.Checks.{scan}
 use Rattle.tables.specs.Open.{row_fault}
 use Rattle.tables.specs.File.{body_length}
 use Rattle.tables.proofs.FileLaws.{span_within}
-use Rattle.tables.proofs.checks.check_rows.Reads as check-rows-reads
-use Rattle.tables.proofs.reads.entry_body.Reads as entry-body-reads
 use Rattle.tables.proofs.checks.check_body.Goals as goal
 
 pub check_rows-requires : goal.check_rows-requires

@@ -1,5 +1,5 @@
 -- `tables::checks::check_entry` meets its contract. Each return is the first fault that applies.
-use borrow.Author.Tests.{lt-ltb, le-ltb, le-leb, lt-leb, eq-eqb, ne_eqb}
+use borrow.Author.Tests.{lt-ltb, le-ltb, eq-eqb, ne_eqb}
 use Rattle.tables.specs.Checks.{fault, ◌then◌}
 use Rattle.tables.specs.Open.{entry_fault}
 use Rattle.tables.proofs.checks.check_entry.Goals as goal

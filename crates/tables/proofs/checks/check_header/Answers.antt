@@ -1,7 +1,7 @@
 -- `tables::checks::check_header` meets its contract. Each return is the first fault that applies.
 use mathlib.Core.Path.{sym, ◌∙◌}
 use native.Mathlib.Omega.{arith}
-use borrow.Author.Tests.{lt-ltb, le-ltb, le-leb, lt-leb, eq-eqb, ne_eqb}
+use borrow.Author.Tests.{lt-ltb, le-ltb}
 use Rattle.tables.specs.Checks.{fault, ◌then◌}
 use Rattle.tables.specs.Open.{header_fault}
 use Rattle.tables.proofs.AcceptedLaws.{outside_high}

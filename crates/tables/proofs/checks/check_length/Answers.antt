@@ -1,5 +1,5 @@
 -- `tables::checks::check_length` meets its contract. The file ends where the bodies end, or the length is wrong.
-use borrow.Author.Tests.{lt-ltb, le-ltb, le-leb, lt-leb, eq-eqb, ne_eqb}
+use borrow.Author.Tests.{eq-eqb, ne_eqb}
 use Rattle.tables.specs.Checks.{fault}
 use Rattle.tables.specs.Open.{length_fault}
 use Rattle.tables.proofs.checks.check_length.Goals as goal

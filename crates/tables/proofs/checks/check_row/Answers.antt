@@ -1,6 +1,5 @@
 -- `tables::checks::check_row` meets its contract. Each return is the first fault that applies.
-use borrow.Author.Tests.{lt-ltb, le-ltb, le-leb, lt-leb, eq-eqb, ne_eqb}
-use Prim.Native.Nat.{ℕ}
+use borrow.Author.Tests.{le-leb, lt-leb, eq-eqb, ne_eqb}
 use mathlib.Core.Path.{◌≡◌}
 use native.Mathlib.Omega.{arith}
 use Rattle.tables.specs.Checks.{fault, ◌then◌}

@@ -1,11 +1,9 @@
 -- `tables::checks::check_rows` meets its contract. The invariant: the rows before j have passed.
 use Prim.Native.Nat.{◌-◌, ◌≤◌}
 use mathlib.Core.Path.{◌≡◌}
-use native.Mathlib.Omega.{arith}
 use Rattle.tables.specs.declared.Checked.TheVariants.{Passed}
 use Rattle.tables.specs.Checks.{scan}
 use Rattle.tables.specs.Open.{row_fault}
-use Rattle.tables.proofs.CheckLaws.{scan_none, scan_next, scan_stops, scan_done}
 use Rattle.tables.proofs.checks.check_rows.Given as goal
 
 abbrev pub invariant-loop-j : goal.invariant-loop-j

@@ -1,14 +1,11 @@
 -- `tables::reads::entry_body` meets its contract. The part starts at the offset and has as many bytes as the body, where the file has them.
-use mathlib.Core.Path.{refl, ap}
-use Prim.Native.Nat.{ℕ}
+use mathlib.Core.Path.{refl}
 use native.Mathlib.Omega.{arith}
 use native.Mathlib.Nat.{add-sub_cancel_left}
-use lib.ListN.{length}
 use borrow.Author.Tests.{lt-ltb}
 use Rattle.tables.specs.File.{body_length}
 use Rattle.tables.specs.Part.{entry_span}
 use Rattle.tables.proofs.FileLaws.{span_within}
-use Rattle.tables.proofs.reads.Entry.body_length.Reads as body-length-reads
 use Rattle.tables.proofs.reads.entry_body.Goals as goal
 
 pub overflow_add-end : goal.overflow_add-end
