@@ -19,7 +19,7 @@ use Rattle.questions.specs.declared.Question.{Question}
 use Rattle.questions.specs.Pairs.{demand_of, supply_of}
 use Rattle.questions.specs.Modes.{mode_of}
 
--- "Marked 0 means kept; the kept set of a carried_out_lem call that writes marks is the pairs of states whose mark it wrote as 0."
+-- "Marked 0 means kept; the kept set of a carried-out call that writes marks is the pairs of states whose mark it wrote as 0."
 abbrev pub KeptIn : Machine → Machine → List ℕ → Pairs
 KeptIn D S slice u w = (u < D.n) × (w < S.n) × (mark_at S.n slice u w ≡ 0)
 
