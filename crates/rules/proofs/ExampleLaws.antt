@@ -16,7 +16,7 @@ use Rattle.rules.specs.Rounds.{has_response, slot_holds, pair_holds, is_pair, ke
 use Rattle.rules.specs.Steps.{follows, struck_by, lacks_response, step_to, last_slot, slots, steps}
 use Rattle.rules.specs.Join.{insert_row, insert_rows, join_rows, join}
 use Rattle.rules.specs.Examples.{demand_e, supply_e, fin_only, demand_fifth, demand_sixth, then_fin, once, at_most_once, repeated, two_slots, one_or_two, stuck_supply, nothing_or_one, examples}
-use Rattle.rules.specs.Examples.{Example, Means, moves_are, marks_are, saysYes, saysNo, run_is, join_is, join_count, is_stuck}
+use Rattle.rules.specs.Examples.{Example, Means, moves_are, marks_are, says_yes, says_no, run_is, join_is, join_count, is_stuck}
 use Rattle.rules.proofs.Booleans.{eq-T, and_l, and_r}
 use Rattle.rules.proofs.ListLaws.{all-each}
 
@@ -67,8 +67,8 @@ same_numbers = same_list eqb eqb→eq
 test : Example → Bool
 test (moves_are D S t s l) = same_numbers (flat_map numbers (survivors (machine D) (machine S) t s)) l
 test (marks_are mode D S l) = same_numbers (marks mode (machine D) (machine S)) l
-test (saysYes mode D S t s) = ltb t D.n && (ltb s S.n && eqb (mark mode (machine D) (machine S) t s) 0)
-test (saysNo mode D S t s) = ltb t D.n && (ltb s S.n && not (eqb (mark mode (machine D) (machine S) t s) 0))
+test (says_yes mode D S t s) = ltb t D.n && (ltb s S.n && eqb (mark mode (machine D) (machine S) t s) 0)
+test (says_no mode D S t s) = ltb t D.n && (ltb s S.n && not (eqb (mark mode (machine D) (machine S) t s) 0))
 test (run_is mode D S t s l) = same_numbers (steps mode (machine D) (machine S) t s) l
 test (join_is A B J) = same_table (join (machine A) (machine B)) J
 test (join_count A B m) = eqb (length (join (machine A) (machine B)).rows) m
@@ -88,8 +88,8 @@ tested : (e : Example) → T (test e) → Means e
 unfolding test Means same_numbers
 tested (moves_are D S t s l) h = equal_list eqb eqb→eq (flat_map numbers (survivors (machine D) (machine S) t s)) l h
 tested (marks_are mode D S l) h = equal_list eqb eqb→eq (marks mode (machine D) (machine S)) l h
-tested (saysYes mode D S t s) h = states t s D.n S.n (eqb (mark mode (machine D) (machine S) t s) 0) (eqb→eq (mark mode (machine D) (machine S) t s) 0) h
-tested (saysNo mode D S t s) h =
+tested (says_yes mode D S t s) h = states t s D.n S.n (eqb (mark mode (machine D) (machine S) t s) 0) (eqb→eq (mark mode (machine D) (machine S) t s) 0) h
+tested (says_no mode D S t s) h =
     states t s D.n S.n (not (eqb (mark mode (machine D) (machine S) t s) 0))
     (λ h e. T_not (eqb (mark mode (machine D) (machine S) t s) 0) h (eq-T (mark mode (machine D) (machine S) t s) 0 e)) h
 tested (run_is mode D S t s l) h = equal_list eqb eqb→eq (steps mode (machine D) (machine S) t s) l h
