@@ -7,15 +7,13 @@ use lib.ListN.{length, get_or}
 use Rattle.rules.specs.Slices.{overwrite}
 use Rattle.rules.proofs.SliceLaws.{overwrite-long}
 use Rattle.tables.specs.declared.Refusal.{Refusal}
-use Rattle.tables.specs.declared.Checked.{Checked}
-use Rattle.tables.specs.declared.Checked.TheVariants.{Passed, Fault}
-use Rattle.tables.specs.Checks.{◌then◌}
+use Rattle.tables.specs.Checks.{Checked, ◌then◌}
 use Rattle.tables.specs.Answers.{Answer, answer, turned_back, carried_out, slice_after}
+use Rattle.std.proofs.Common.{Ok, Err}
 use Rattle.lines.specs.Lines.{refused_line}
 use Rattle.questions.specs.declared.Question.{Question}
 use Rattle.checker.specs.Graph.{graph_text_at, graph_checks, graph_answer, graph_slice}
 use Rattle.questions.specs.Questions.{asked_of}
-use Rattle.questions.specs.declared.programs.Asked.TheVariants as asked
 use Rattle.questions.proofs.QuestionLaws.{asked_refused, asked_question}
 use Rattle.aut.specs.Aut.{refusal_text, text_after, graph_printed, aut_text, Printed}
 
@@ -25,14 +23,14 @@ module _ (text entry : List ℕ) where
   count_printed : (c : Checked) (count : ℕ) (exit : List ℕ) → carried_out (count ∷ []) ≡ answer c (length text ∷ []) → exit ≡ slice_after c (overwrite text entry) entry
       → Printed (text_after c text) entry count exit
   unfolding answer slice_after
-  count_printed Passed count exit e w = record { count_is = ap (λ (a : Answer). get_or a.values 0 0) e; bytes_are = w }
-  count_printed (Fault r) count exit e w = absurd (let none : 1 ≡ 0 = ap (λ (a : Answer). length a.values) e in omega arith)
+  count_printed (Ok u) count exit e w = record { count_is = ap (λ (a : Answer). get_or a.values 0 0) e; bytes_are = w }
+  count_printed (Err r) count exit e w = absurd (let none : 1 ≡ 0 = ap (λ (a : Answer). length a.values) e in omega arith)
 
   refusal_printed : (c : Checked) (r : Refusal) (mid : List ℕ) → turned_back r ≡ answer c (length text ∷ []) → mid ≡ slice_after c (overwrite text entry) entry
       → {count : ℕ} {exit : List ℕ} → (count ≡ length (refusal_text r)) × (exit ≡ overwrite (refusal_text r) mid) → Printed (text_after c text) entry count exit
   unfolding answer slice_after
-  refusal_printed Passed r mid e w p = absurd (let none : 0 ≡ 1 = ap (λ (a : Answer). length a.values) e in omega arith)
-  refusal_printed (Fault x) r mid e w (p, v) =
+  refusal_printed (Ok u) r mid e w p = absurd (let none : 0 ≡ 1 = ap (λ (a : Answer). length a.values) e in omega arith)
+  refusal_printed (Err x) r mid e w (p, v) =
       let same : refusal_text r ≡ refusal_text x = ap (λ (a : Answer). refused_line a.number a.place) e in
       record { count_is = p ∙ ap length same; bytes_are = v ∙ (λ i. overwrite (same i) (w i)) }
 
@@ -50,12 +48,12 @@ module _ (s : List ℕ) (q : Question) (entry : List ℕ) where
 -- ---- what is asked
 
 module _ (s entry : List ℕ) {count : ℕ} {exit : List ℕ} where
-  pub text_refused : (r : Refusal) → asked_of s ≡ asked.Refused r → (count ≡ length (refusal_text r)) × (exit ≡ overwrite (refusal_text r) entry)
+  pub text_refused : (r : Refusal) → asked_of s ≡ Err r → (count ≡ length (refusal_text r)) × (exit ≡ overwrite (refusal_text r) entry)
       → Printed (aut_text s (length entry)) entry count exit
   unfolding aut_text ◌then◌
   text_refused r e (p, w) = rw (asked_refused s r e) (record { count_is = p; bytes_are = w })
 
-  pub text_asked : (q : Question) → asked_of s ≡ asked.Question q → Printed (graph_printed s q (length entry)) entry count exit
+  pub text_asked : (q : Question) → asked_of s ≡ Ok q → Printed (graph_printed s q (length entry)) entry count exit
       → Printed (aut_text s (length entry)) entry count exit
   unfolding aut_text ◌then◌
   text_asked q e p =

@@ -1,22 +1,21 @@
 -- The text that the program for the viewer prints for a file.
-use Rattle.std.specs.Prelude.{ℕ, ◌≡◌, List, length}
+use Rattle.std.specs.Prelude.{ℕ, ◌≡◌, List, length, Ok, Err}
 use Rattle.rules.specs.Slices.{overwrite}
 use Rattle.tables.specs.declared.Refusal.{Refusal}
-use Rattle.tables.specs.declared.Checked.{Checked}
-use Rattle.tables.specs.declared.Checked.TheVariants.{Passed, Fault}
-use Rattle.tables.specs.Checks.{◌then◌}
+use Rattle.tables.specs.Answers.{number_of}
+use Rattle.tables.specs.Checks.{Checked, ◌then◌}
 use Rattle.lines.specs.Lines.{refused_line}
 use Rattle.questions.specs.declared.Question.{Question}
 use Rattle.checker.specs.Graph.{graph_text_at, graph_checks}
 use Rattle.questions.specs.Questions.{question_of, program_checks}
 
 abbrev pub refusal_text : Refusal → List ℕ
-refusal_text r = refused_line r.number r.place
+refusal_text r = refused_line (number_of r.reason) r.place
 
 -- a text, or the line of what turns it back
 abbrev pub text_after : Checked → List ℕ → List ℕ
-text_after (Fault r) text = refusal_text r
-text_after Passed text = text
+text_after (Err r) text = refusal_text r
+text_after (Ok u) text = text
 
 -- the graph of a question, where the text has room for so many bytes
 abbrev pub graph_printed : List ℕ → Question → ℕ → List ℕ

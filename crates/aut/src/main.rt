@@ -7,9 +7,9 @@ ghost use Rattle.std.specs.Prelude.{◌≤◌, ◌≡◌, length};
 ghost use Rattle.rules.specs.Slices.{overwrite};
 ghost use Rattle.aut.specs.Aut.{refusal_text, graph_printed, aut_text, Printed};
 
-use checker::{Counted, Question};
+use checker::Question;
 use lines::put_refused;
-use questions::{Asked, ask};
+use questions::ask;
 use rules::Limits;
 use tables::Refusal;
 
@@ -21,7 +21,7 @@ fn put_refusal(refusal: Refusal, out: &mut [u8]) -> usize
     ensures count { result ≡ length (refusal_text refusal) }
     ensures bytes { out.new ≡ overwrite (refusal_text refusal) out.old }
 {
-    put_refused(out, 0, refusal.number as usize, refusal.place)
+    put_refused(out, 0, refusal.reason.number() as usize, refusal.place)
 }
 
 fn put_graph(file: &[u8], question: Question, out: &mut [u8]) -> usize
@@ -29,8 +29,8 @@ fn put_graph(file: &[u8], question: Question, out: &mut [u8]) -> usize
     ensures { Printed (graph_printed file.now question (length out.old)) out.old result out.new }
 {
     match checker::graph(file, question, out) {
-        Counted::Count(count) => count,
-        Counted::Refused(refusal) => put_refusal(refusal, out),
+        Ok(count) => count,
+        Err(refusal) => put_refusal(refusal, out),
     }
 }
 
@@ -40,8 +40,8 @@ fn put_text(file: &[u8], out: &mut [u8]) -> usize
     ensures { Printed (aut_text file.now (length out.old)) out.old result out.new }
 {
     match ask(file) {
-        Asked::Question(question) => put_graph(file, question, out),
-        Asked::Refused(refusal) => put_refusal(refusal, out),
+        Ok(question) => put_graph(file, question, out),
+        Err(refusal) => put_refusal(refusal, out),
     }
 }
 

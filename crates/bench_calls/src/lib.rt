@@ -6,7 +6,7 @@ ghost use Rattle.std.specs.Prelude.{◌≡◌, length};
 ghost use Rattle.checker.specs.Decide.{decide_answer, decide_slice};
 ghost use Rattle.bench_calls.specs.Packed.{asked, packed};
 
-use checker::{Decided, Question, Side};
+use checker::{Question, Side};
 
 // Decide, from the same state of both tables: its answer as one number, and the marks as it writes them.
 #[unsafe(no_mangle)]
@@ -33,12 +33,12 @@ pub extern "C" fn bench_decide(
     };
     let decided = checker::decide(file, question, mode, marks);
     match decided {
-        Decided::Answered(verdict) => {
+        Ok(verdict) => {
             let yes = verdict.yes as u64;
             let kept = verdict.kept as u64;
             let rounds = verdict.rounds as u64;
             yes * 65536 + kept * 4294967296 + rounds * 281474976710656
         }
-        Decided::Refused(refusal) => refusal.number as u64,
+        Err(refusal) => refusal.reason.number() as u64,
     }
 }

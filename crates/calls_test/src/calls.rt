@@ -1,8 +1,8 @@
 // Each call, and its answer: what it returns, and what the lent slices hold after it.
 use crate::lent;
-use checker::{Counted, Decided, Joined, Verdict};
+use checker::{TableSize, Verdict};
 use rules::{Limits, Row};
-use tables::{Entry, Opened, Refusal};
+use tables::{Kind, Refusal};
 
 // A number of the first line in 16 bits. None is larger: files and slices are shorter than 65,536.
 fn short(n: usize) -> u16 {
@@ -20,28 +20,33 @@ fn tell_values(first: usize, second: usize, third: usize) {
 
 // The first line of a call that is turned back.
 fn tell_refusal(refusal: Refusal) {
-    let line = [refusal.number as u16, short(refusal.place), 0, 0, 0];
+    let line = [
+        refusal.reason.number() as u16,
+        short(refusal.place),
+        0,
+        0,
+        0,
+    ];
     output::entries(&line);
 }
 
 pub(crate) fn open(asked: &[u8]) {
-    let found = tables::open(input::file(asked));
-    match found {
-        Opened::Tables(k) => tell_values(k, 0, 0),
-        Opened::Refused(refusal) => tell_refusal(refusal),
-    }
+    tell_count(tables::open(input::file(asked)));
 }
 
 pub(crate) fn body(asked: &[u8]) {
     let table = input::number(asked, 2);
-    tell_refusal(tables::body_refusal(input::file(asked), table));
+    match tables::check_body(input::file(asked), table) {
+        Ok(()) => tell_values(0, 0, 0),
+        Err(refusal) => tell_refusal(refusal),
+    }
     output::bytes(tables::body(input::file(asked), table));
 }
 
-fn tell_count(found: Counted) {
+fn tell_count(found: Result<usize, Refusal>) {
     match found {
-        Counted::Count(count) => tell_values(count, 0, 0),
-        Counted::Refused(refusal) => tell_refusal(refusal),
+        Ok(count) => tell_values(count, 0, 0),
+        Err(refusal) => tell_refusal(refusal),
     }
 }
 
@@ -53,10 +58,10 @@ fn tell_verdict(found: Verdict) {
     );
 }
 
-fn tell_decision(found: Decided) {
+fn tell_decision(found: Result<Verdict, Refusal>) {
     match found {
-        Decided::Answered(verdict) => tell_verdict(verdict),
-        Decided::Refused(refusal) => tell_refusal(refusal),
+        Ok(verdict) => tell_verdict(verdict),
+        Err(refusal) => tell_refusal(refusal),
     }
 }
 
@@ -81,10 +86,10 @@ pub(crate) fn on_entries(asked: &[u8], first: &mut [u16], second: &mut [u16]) {
     output::entries(second);
 }
 
-fn tell_join(found: Joined) {
+fn tell_join(found: Result<TableSize, Refusal>) {
     match found {
-        Joined::Table(size) => tell_values(size.states, size.rows, 0),
-        Joined::Refused(refusal) => tell_refusal(refusal),
+        Ok(size) => tell_values(size.states, size.rows, 0),
+        Err(refusal) => tell_refusal(refusal),
     }
 }
 
@@ -143,8 +148,8 @@ pub(crate) fn constants() {
         Row::FIN as u16,
         Row::IDLE,
         Row::NO_RESPONSE,
-        Entry::DEMAND as u16,
-        Entry::SUPPLY as u16,
+        Kind::Demand.code() as u16,
+        Kind::Supply.code() as u16,
         Limits::RESOURCES as u16,
         Limits::STATES as u16,
         Limits::ROWS as u16,

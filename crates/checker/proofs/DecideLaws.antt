@@ -11,10 +11,11 @@ use Rattle.rules.specs.Below.{one}
 use Rattle.rules.specs.Slices.{overwrite}
 use Rattle.rules.specs.Machines.{Machine}
 use Rattle.rules.specs.Rounds.{mark, mark_at, marks}
-use Rattle.tables.specs.declared.Checked.TheVariants.{Passed, Fault}
 use Rattle.tables.specs.Checks.{refuse, fault, ◌then◌}
 use Rattle.tables.specs.Answers.{answer, carried_out, slice_after}
 use Rattle.tables.proofs.CheckLaws.{then_left}
+use Rattle.tables.specs.declared.Reason.TheVariants.{NoRoom}
+use Rattle.std.proofs.Common.{Ok, Err}
 use Rattle.machines.specs.Memory.{states_in, machine_in}
 use Rattle.marks.specs.declared.Summary.{Summary}
 use Rattle.marks.specs.Rounds.{summary_of}
@@ -27,20 +28,20 @@ use Rattle.questions.proofs.ModeLaws.{mode_asked}
 use Rattle.checker.specs.Decide.{decide_checks, decide_answer, decide_slice}
 
 -- where no number applies, the pair was asked about
-pub decide_asked : (s : List ℕ) (q : Question) (mode room : ℕ) → decide_checks s q mode room ≡ Passed → pair_checks s q ≡ Passed
+pub decide_asked : (s : List ℕ) (q : Question) (mode room : ℕ) → decide_checks s q mode room ≡ Ok tt → pair_checks s q ≡ Ok tt
 unfolding decide_checks
 decide_asked s q mode room e = mode_asked s q mode (then_left _ _ e)
 
-module _ (s : List ℕ) (q : Question) (mode : ℕ) (a : mode_checks s q mode ≡ Passed) where
-  pub short_fault : (room : ℕ) → room < (demand_of s q).n * (supply_of s q).n → decide_checks s q mode room ≡ Fault (refuse 14 0)
+module _ (s : List ℕ) (q : Question) (mode : ℕ) (a : mode_checks s q mode ≡ Ok tt) where
+  pub short_fault : (room : ℕ) → room < (demand_of s q).n * (supply_of s q).n → decide_checks s q mode room ≡ Err (refuse NoRoom 0)
   unfolding decide_checks ◌then◌ fault
   short_fault room l = rw (a, lt-ltb room ((demand_of s q).n * (supply_of s q).n) l) refl
 
-  pub none_fault : (room : ℕ) → (demand_of s q).n * (supply_of s q).n ≤ room → decide_checks s q mode room ≡ Passed
+  pub none_fault : (room : ℕ) → (demand_of s q).n * (supply_of s q).n ≤ room → decide_checks s q mode room ≡ Ok tt
   unfolding decide_checks ◌then◌ fault
   none_fault room l = rw (a, le-ltb room ((demand_of s q).n * (supply_of s q).n) l) refl
 
-  asked : pair_checks s q ≡ Passed
+  asked : pair_checks s q ≡ Ok tt
   asked = mode_asked s q mode a
 
   -- carried out: the start's mark tells yes or no, and the marks stand before the rest of the slice

@@ -20,17 +20,18 @@ use Rattle.rules.proofs.RelationLaws.{holds_mono}
 use Rattle.rules.proofs.RoundLaws.{below_pair}
 use Rattle.rules.proofs.MarkLaws.{mark_zero, mark_round, kept_set_meets, kept_set_largest, rounds_struck}
 use Rattle.rules.proofs.RunLaws.{kept_free, kept_schedulable}
-use Rattle.tables.specs.declared.Checked.{Checked}
-use Rattle.tables.specs.declared.Checked.TheVariants.{Passed}
+use Rattle.tables.specs.declared.Refusal.{Refusal}
+use Rattle.checker.specs.declared.Verdict.{Verdict}
 use Rattle.tables.specs.Answers.{carried_out, slice_after}
 use Rattle.tables.proofs.CheckLaws.{passed}
+use Rattle.tables.specs.Checks.{Checked}
+use Rattle.std.proofs.Common.{Result, Ok}
 use Rattle.marks.specs.Rounds.{HasMarks}
 use Rattle.marks.proofs.RoundLaws.{has-marks}
 use Rattle.questions.specs.declared.Question.{Question}
 use Rattle.questions.specs.Pairs.{pair_checks, demand_of, supply_of}
 use Rattle.questions.specs.Modes.{mode_of}
 use Rattle.questions.proofs.PairLaws.{asked_demand, asked_supply, table_at_sound}
-use Rattle.checker.specs.declared.Decided.{Decided}
 use Rattle.checker.specs.Calls.{decided}
 use Rattle.checker.specs.Decide.{decide_checks, decide_answer, decide_slice}
 use Rattle.checker.specs.Demands.{KeptIn, MarksDemand, SecondDemand, ThirdDemand, ThirdDemandAll, DecideDemands}
@@ -179,12 +180,12 @@ module _ (file : List ℕ) (q : Question) (mode : ℕ) (entry exit : List ℕ) (
   abbrev S : Machine
   S = supply_of file q
 
-  outcome : (decide_checks file q mode (length entry) ≡ Passed)
+  outcome : (decide_checks file q mode (length entry) ≡ Ok tt)
       × (one (eqb (mark (mode_of mode) D S q.demand.state q.supply.state) 0) ∷ kept_count (mode_of mode) D S ∷ rounds (mode_of mode) D S ∷ [] ≡ verdict ∷ kept ∷ highest ∷ [])
   unfolding decide_answer
   outcome = passed (decide_checks file q mode (length entry)) _ _ _ told
 
-  asked : pair_checks file q ≡ Passed
+  asked : pair_checks file q ≡ Ok tt
   asked = decide_asked file q mode (length entry) outcome.0
 
   written : exit ≡ overwrite (marks (mode_of mode) D S) entry
@@ -214,7 +215,7 @@ module _ (file : List ℕ) (q : Question) (mode : ℕ) (entry exit : List ℕ) (
   third_demand_all = third_all (mode_of mode) D S q.demand.state q.supply.state verdict kept highest exit tells
 
 -- what Decide ensures, from its answer and the slice
-pub demands : (file : List ℕ) (q : Question) (mode : ℕ) (entry exit : List ℕ) (r : Decided)
+pub demands : (file : List ℕ) (q : Question) (mode : ℕ) (entry exit : List ℕ) (r : Result Verdict Refusal)
     → (decided r ≡ decide_answer file q mode (length entry)) × (exit ≡ decide_slice file q mode entry)
     → (decided r ≡ decide_answer file q mode (length entry)) × ((exit ≡ decide_slice file q mode entry) × DecideDemands file q mode (decided r) exit)
 demands file q mode entry exit r (told, left) = (

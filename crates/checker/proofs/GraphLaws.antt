@@ -9,9 +9,8 @@ use borrow.Author.Tests.{lt-ltb, le-ltb}
 use Rattle.rules.specs.declared.Pair.{Pair}
 use Rattle.rules.specs.Slices.{overwrite}
 use Rattle.rules.proofs.MachineLaws.{moves_rise}
-use Rattle.tables.specs.declared.Checked.{Checked}
-use Rattle.tables.specs.declared.Checked.TheVariants.{Passed, Fault}
-use Rattle.tables.specs.Checks.{refuse, fault, ◌then◌}
+use Rattle.tables.specs.declared.Refusal.{Refusal}
+use Rattle.tables.specs.Checks.{Checked, refuse, fault, ◌then◌}
 use Rattle.tables.specs.Answers.{answer, carried_out, slice_after}
 use Rattle.tables.specs.Tables.{table_of}
 use Rattle.tables.proofs.CheckLaws.{then_left, passed}
@@ -21,8 +20,9 @@ use Rattle.graphs.proofs.GraphLaws.{is_graph}
 use Rattle.questions.specs.declared.Question.{Question}
 use Rattle.questions.specs.Pairs.{pair_checks, demand_of, supply_of, pair_of, PairLoaded}
 use Rattle.questions.proofs.PairLaws.{asked_demand, asked_supply, table_at_sound}
-use Rattle.checker.specs.declared.Counted.{Counted}
-use Rattle.checker.specs.Calls.{counted}
+use Rattle.tables.specs.Answers.{counted}
+use Rattle.tables.specs.declared.Reason.TheVariants.{NoRoom}
+use Rattle.std.proofs.Common.{Result, Ok, Err}
 use Rattle.checker.specs.Graph.{graph_text_at, graph_checks, graph_answer, graph_slice, GraphDemands}
 
 -- the text, by the two machines
@@ -30,15 +30,15 @@ pub text_found : (s : List ℕ) (q : Question) (demand supply : List ℕ) → Pa
     → graph_text_in demand supply p ≡ graph_text_at s q
 text_found s q demand supply x p e = λ i. graph_text (x.demand_is i) (x.supply_is i) (e i)
 
-module _ (s : List ℕ) (q : Question) (a : pair_checks s q ≡ Passed) (text : List ℕ) (same : text ≡ graph_text_at s q) (count : ℕ) (long : count ≡ length text) where
+module _ (s : List ℕ) (q : Question) (a : pair_checks s q ≡ Ok tt) (text : List ℕ) (same : text ≡ graph_text_at s q) (count : ℕ) (long : count ≡ length text) where
   -- by 14: the text does not fit into room
-  pub text_short : (room : ℕ) → room < count → graph_checks s q room ≡ Fault (refuse 14 0)
+  pub text_short : (room : ℕ) → room < count → graph_checks s q room ≡ Err (refuse NoRoom 0)
   unfolding graph_checks ◌then◌ fault
   text_short room l =
       let short : room < length (graph_text_at s q) = omega (arith, long, ap length same) in
       rw (a, lt-ltb room (length (graph_text_at s q)) short) refl
 
-  none_fault : (room : ℕ) → count ≤ room → graph_checks s q room ≡ Passed
+  none_fault : (room : ℕ) → count ≤ room → graph_checks s q room ≡ Ok tt
   unfolding graph_checks ◌then◌ fault
   none_fault room l =
       let enough : length (graph_text_at s q) ≤ room = omega (arith, long, ap length same) in
@@ -54,11 +54,11 @@ module _ (s : List ℕ) (q : Question) (a : pair_checks s q ≡ Passed) (text : 
 
 module _ (s : List ℕ) (q : Question) (entry exit : List ℕ) (left : exit ≡ graph_slice s q entry) (count : ℕ)
     (told : graph_answer s q (length entry) ≡ carried_out (count ∷ [])) where
-  outcome : (graph_checks s q (length entry) ≡ Passed) × (length (graph_text_at s q) ∷ [] ≡ count ∷ [])
+  outcome : (graph_checks s q (length entry) ≡ Ok tt) × (length (graph_text_at s q) ∷ [] ≡ count ∷ [])
   unfolding graph_answer
   outcome = passed (graph_checks s q (length entry)) _ _ _ told
 
-  asked : pair_checks s q ≡ Passed
+  asked : pair_checks s q ≡ Ok tt
   unfolding graph_checks
   asked = then_left _ _ outcome.0
 
@@ -76,7 +76,7 @@ module _ (s : List ℕ) (q : Question) (entry exit : List ℕ) (left : exit ≡ 
       (pair_of q) entry)
 
 -- what Graph ensures, from its answer and the bytes
-pub graph_shown : (s : List ℕ) (q : Question) (entry exit : List ℕ) (r : Counted)
+pub graph_shown : (s : List ℕ) (q : Question) (entry exit : List ℕ) (r : Result ℕ Refusal)
     → (counted r ≡ graph_answer s q (length entry)) × (exit ≡ graph_slice s q entry)
     → (counted r ≡ graph_answer s q (length entry)) × ((exit ≡ graph_slice s q entry) × GraphDemands s q (counted r) exit)
 graph_shown s q entry exit r (told, left) = (told, (left, record { second = λ count e. covered s q entry exit left count (sym told ∙ e) }))

@@ -16,27 +16,25 @@ use Rattle.rules.specs.Actions.{tasks, ◌∥◌}
 use Rattle.rules.specs.Join.{join_state, join, IsJoinRow}
 use Rattle.rules.proofs.MachineLaws.{fin_moves}
 use Rattle.rules.proofs.JoinLaws.{join_rises, join_rows_lem, join_from, join_target, join_parallel}
-use Rattle.tables.specs.declared.Checked.{Checked}
-use Rattle.tables.specs.declared.Checked.TheVariants.{Passed}
-use Rattle.tables.specs.Checks.{refuse, ◌then◌}
-use Rattle.tables.specs.Answers.{Answer, turned_back, carried_out, slice_after}
+use Rattle.tables.specs.declared.Refusal.{Refusal}
+use Rattle.checker.specs.declared.TableSize.{TableSize}
+use Rattle.tables.specs.Checks.{Checked, ◌then◌}
+use Rattle.tables.specs.Answers.{Answer, counted, turned_back, carried_out, slice_after}
 use Rattle.tables.specs.File.{body_bytes}
 use Rattle.tables.specs.Accepted.{TableBody}
 use Rattle.tables.specs.Tables.{rows_of, table_of, machine_of}
 use Rattle.tables.proofs.CheckLaws.{fault_passed, then_left, then_right, carried_out_lem, passed, turned_whatever}
 use Rattle.tables.proofs.RowLaws.{length-bytes, bytes_rows, bytes_body}
+use Rattle.std.proofs.Common.{Result, Ok, Err}
 use Rattle.machines.specs.Memory.{states_in, machine_in, InMemory}
-use Rattle.joins.specs.declared.Written.{Written}
-use Rattle.joins.specs.declared.Written.TheVariants.{Count, TooMany, NoRoom}
-use Rattle.joins.specs.Joins.{TwoDemands, rows_in, written, rows_checks, rows_answer, rows_slice}
+use Rattle.joins.specs.Joins.{TwoDemands, rows_in, rows_checks, rows_answer, rows_slice}
 use Rattle.questions.specs.Sizes.{size_checks}
 use Rattle.questions.proofs.PairLaws.{table_at_sound, loaded_plain}
 use Rattle.questions.proofs.SizeLaws.{first_at, second_at, states_few}
-use Rattle.checker.specs.declared.Joined.{Joined}
 use Rattle.checker.specs.Calls.{joined}
 use Rattle.checker.specs.Join.{join_of, join_checks, join_answer, join_slice, IsJoin, JoinDemands}
 
-module _ (s : List ℕ) (i j : ℕ) (a : size_checks s i j ≡ Passed) where
+module _ (s : List ℕ) (i j : ℕ) (a : size_checks s i j ≡ Ok tt) where
   -- ---- the two machines, as they are loaded
 
   module _ (one : List ℕ) (e : machine_in one ≡ widen 0 (machine_of s i)) (two : List ℕ) (f : machine_in two ≡ widen 0 (machine_of s j)) where
@@ -60,31 +58,29 @@ module _ (s : List ℕ) (i j : ℕ) (a : size_checks s i j ≡ Passed) where
   -- ---- what writing comes to
 
   -- the answer that writing gives to a joined table of n states
-  abbrev answer_of : ℕ → Written → Answer
-  answer_of n (Count m) = carried_out (n ∷ m ∷ [])
-  answer_of n TooMany = turned_back (refuse 17 0)
-  answer_of n NoRoom = turned_back (refuse 14 0)
+  abbrev answer_of : ℕ → Result ℕ Refusal → Answer
+  answer_of n (Ok m) = carried_out (n ∷ m ∷ [])
+  answer_of n (Err r) = turned_back r
 
   -- the rows decide
   rows_decide : (room : ℕ) → join_checks s i j room ≡ rows_checks (join_of s i j).rows room
   unfolding join_checks ◌then◌
   rows_decide room = rw a refl
 
-  by_rows : (room n : ℕ) → n ≡ (table_of s i).n * (table_of s j).n → (w : Written) → written w ≡ rows_answer (join_of s i j).rows room → answer_of n w ≡ join_answer s i j room
+  by_rows : (room n : ℕ) → n ≡ (table_of s i).n * (table_of s j).n → (w : Result ℕ Refusal) → counted w ≡ rows_answer (join_of s i j).rows room → answer_of n w ≡ join_answer s i j room
   unfolding join_answer rows_answer
-  by_rows room n product (Count m) e =
+  by_rows room n product (Ok m) e =
       let (passes, values) = passed (rows_checks (join_of s i j).rows room) m [] (length (join_of s i j).rows ∷ []) (sym e) in
       let told = carried_out_lem (rows_checks (join_of s i j).rows room) ((table_of s i).n * (table_of s j).n ∷ length (join_of s i j).rows ∷ []) [] [] passes in
       rw (rows_decide room) (ap₂ (λ (x y : ℕ). carried_out (x ∷ y ∷ [])) product (sym (ap (λ (l : List ℕ). get_or l 0 0) values)) ∙ told.0)
-  by_rows room n product TooMany e = rw (rows_decide room) (turned_whatever _ (refuse 17 0) _ _ _ e)
-  by_rows room n product NoRoom e = rw (rows_decide room) (turned_whatever _ (refuse 14 0) _ _ _ e)
+  by_rows room n product (Err r) e = rw (rows_decide room) (turned_whatever _ r _ _ _ e)
 
   pub write_answers : (n : ℕ) → n ≡ (table_of s i).n * (table_of s j).n → (entry exit : List ℕ) (rows : List Row) → rows ≡ (join_of s i j).rows
-      → {w v : Written} → written w ≡ rows_answer rows (length entry) → exit ≡ rows_slice rows entry → w ≡ v
+      → {w v : Result ℕ Refusal} → counted w ≡ rows_answer rows (length entry) → exit ≡ rows_slice rows entry → w ≡ v
       → (answer_of n v ≡ join_answer s i j (length entry)) × (exit ≡ join_slice s i j entry)
   unfolding join_slice rows_slice
   write_answers n product entry exit rows found {w} {v} told left e = (
-    by_rows (length entry) n product v (ap written (sym e) ∙ told ∙ ap (λ (z : List Row). rows_answer z (length entry)) found),
+    by_rows (length entry) n product v (ap counted (sym e) ∙ told ∙ ap (λ (z : List Row). rows_answer z (length entry)) found),
     left ∙ ap (λ (z : List Row). slice_after (rows_checks z (length entry)) (overwrite (body_bytes z) entry) entry) found
         ∙ ap (λ (c : Checked). slice_after c (overwrite (body_bytes (join_of s i j).rows) entry) entry) (sym (rows_decide (length entry))),
   )
@@ -102,11 +98,11 @@ module _ (s : List ℕ) (i j : ℕ) (entry exit : List ℕ) (left : exit ≡ joi
   abbrev rows : List Row
   rows = (join_of s i j).rows
 
-  outcome : (join_checks s i j (length entry) ≡ Passed) × ((table_of s i).n * (table_of s j).n ∷ length rows ∷ [] ≡ n ∷ m ∷ [])
+  outcome : (join_checks s i j (length entry) ≡ Ok tt) × ((table_of s i).n * (table_of s j).n ∷ length rows ∷ [] ≡ n ∷ m ∷ [])
   unfolding join_answer
   outcome = passed (join_checks s i j (length entry)) _ _ _ told
 
-  asked : size_checks s i j ≡ Passed
+  asked : size_checks s i j ≡ Ok tt
   unfolding join_checks
   asked = then_left _ _ outcome.0
 
@@ -159,7 +155,7 @@ module _ (s : List ℕ) (i j : ℕ) (entry exit : List ℕ) (left : exit ≡ joi
   }
 
 -- of a call, all three
-pub joined_table : (s : List ℕ) (i j : ℕ) (entry exit : List ℕ) (r : Joined)
+pub joined_table : (s : List ℕ) (i j : ℕ) (entry exit : List ℕ) (r : Result TableSize Refusal)
     → (joined r ≡ join_answer s i j (length entry)) × (exit ≡ join_slice s i j entry)
     → (joined r ≡ join_answer s i j (length entry)) × ((exit ≡ join_slice s i j entry) × JoinDemands s i j (joined r) exit)
 joined_table s i j entry exit r (a, l) = (a, (l, record { table = λ n m told. is_join s i j entry exit l n m (sym a ∙ told) }))

@@ -18,29 +18,29 @@ use Rattle.rules.proofs.ListLaws.{mem_get_or, get_or-mem, length-flat_map, flat_
 use Rattle.rules.proofs.MachineLaws.{moves_rise}
 use Rattle.rules.proofs.MoveLaws.{survivors_iff, rising_survivors}
 use Rattle.rules.proofs.PadsLaws.{beside_survivors}
-use Rattle.tables.specs.declared.Checked.{Checked}
-use Rattle.tables.specs.declared.Checked.TheVariants.{Passed, Fault}
-use Rattle.tables.specs.Checks.{refuse, fault, ◌then◌}
+use Rattle.tables.specs.declared.Refusal.{Refusal}
+use Rattle.tables.specs.Checks.{Checked, refuse, fault, ◌then◌}
 use Rattle.tables.specs.Answers.{answer, carried_out, slice_after}
 use Rattle.tables.specs.Tables.{table_of}
 use Rattle.tables.proofs.CheckLaws.{passed}
 use Rattle.moves.specs.Survivors.{survivors_in}
 use Rattle.questions.specs.declared.Question.{Question}
 use Rattle.questions.specs.Pairs.{pair_checks, demand_of, supply_of, pair_of, PairLoaded}
-use Rattle.checker.specs.declared.Counted.{Counted}
-use Rattle.checker.specs.Calls.{counted}
+use Rattle.tables.specs.Answers.{counted}
+use Rattle.tables.specs.declared.Reason.TheVariants.{NoRoom}
+use Rattle.std.proofs.Common.{Result, Ok, Err}
 use Rattle.checker.specs.Moves.{survivors_at, moves_checks, moves_answer, moves_slice}
 use Rattle.checker.specs.Demands.{step_numbers, move_at, MovesDemand, MovesDemands}
 
-module _ (s : List ℕ) (q : Question) (a : pair_checks s q ≡ Passed) (cs : List Candidate) (same : cs ≡ survivors_at s q) (count : ℕ) (counted : count ≡ length cs) where
+module _ (s : List ℕ) (q : Question) (a : pair_checks s q ≡ Ok tt) (cs : List Candidate) (same : cs ≡ survivors_at s q) (count : ℕ) (counted : count ≡ length cs) where
   -- by 14: 5 × count do not fit into room
-  pub short_fault : (room : ℕ) → room / 5 < count → moves_checks s q room ≡ Fault (refuse 14 0)
+  pub short_fault : (room : ℕ) → room / 5 < count → moves_checks s q room ≡ Err (refuse NoRoom 0)
   unfolding moves_checks ◌then◌ fault
   short_fault room l =
       let short : room < 5 * length (survivors_at s q) = omega (arith, ap length same) in
       rw (a, lt-ltb room (5 * length (survivors_at s q)) short) refl
 
-  none_fault : (room : ℕ) → count ≤ room / 5 → moves_checks s q room ≡ Passed
+  none_fault : (room : ℕ) → count ≤ room / 5 → moves_checks s q room ≡ Ok tt
   unfolding moves_checks ◌then◌ fault
   none_fault room l =
       let long : 5 * length (survivors_at s q) ≤ room = omega (arith, ap length same) in
@@ -110,7 +110,7 @@ module _ (D S : Machine) (rd : Rises D) (rs : Rises S) (t s : ℕ) (entry slice 
 -- what Moves of a pair ensures, from its answer and the slice
 module _ (file : List ℕ) (q : Question) (entry exit : List ℕ) (left : exit ≡ moves_slice file q entry) (count : ℕ)
     (told : moves_answer file q (length entry) ≡ carried_out (count ∷ [])) where
-  outcome : (moves_checks file q (length entry) ≡ Passed) × (length (survivors_at file q) ∷ [] ≡ count ∷ [])
+  outcome : (moves_checks file q (length entry) ≡ Ok tt) × (length (survivors_at file q) ∷ [] ≡ count ∷ [])
   unfolding moves_answer
   outcome = passed (moves_checks file q (length entry)) _ _ _ told
 
@@ -124,7 +124,7 @@ module _ (file : List ℕ) (q : Question) (entry exit : List ℕ) (left : exit �
       (moves_demand (demand_of file q) (supply_of file q) (moves_rise (table_of file q.demand.table).rows) (moves_rise (table_of file q.supply.table).rows)
       q.demand.state q.supply.state entry exit written)
 
-pub moves_shown : (file : List ℕ) (q : Question) (entry exit : List ℕ) (r : Counted)
+pub moves_shown : (file : List ℕ) (q : Question) (entry exit : List ℕ) (r : Result ℕ Refusal)
     → (counted r ≡ moves_answer file q (length entry)) × (exit ≡ moves_slice file q entry)
     → (counted r ≡ moves_answer file q (length entry)) × ((exit ≡ moves_slice file q entry) × MovesDemands file q (counted r) exit)
 moves_shown file q entry exit r (told, left) = (told, (left, record { second = λ count e. demanded file q entry exit left count (sym told ∙ e) }))

@@ -14,9 +14,7 @@ use Rattle.rules.specs.Steps.{IsRun, slots, steps}
 use Rattle.rules.proofs.MachineLaws.{moves_rise}
 use Rattle.rules.proofs.StepLaws.{run_is, run_length, run_blocked, length-steps}
 use Rattle.tables.specs.declared.Refusal.{Refusal}
-use Rattle.tables.specs.declared.Checked.{Checked}
-use Rattle.tables.specs.declared.Checked.TheVariants.{Passed, Fault}
-use Rattle.tables.specs.Checks.{refuse, fault, ◌then◌}
+use Rattle.tables.specs.Checks.{Checked, refuse, fault, ◌then◌}
 use Rattle.tables.specs.Answers.{answer, turned_back, carried_out, slice_after}
 use Rattle.tables.specs.Tables.{table_of}
 use Rattle.tables.proofs.CheckLaws.{then_left, then_fault, turned_back_lem, passed}
@@ -28,8 +26,9 @@ use Rattle.questions.specs.Pairs.{pair_checks, demand_of, supply_of, pair_of, Pa
 use Rattle.questions.specs.Modes.{mode_of, mode_checks}
 use Rattle.questions.proofs.PairLaws.{asked_demand, asked_supply, table_at_sound, pairs_are}
 use Rattle.questions.proofs.ModeLaws.{mode_asked}
-use Rattle.checker.specs.declared.Counted.{Counted}
-use Rattle.checker.specs.Calls.{counted}
+use Rattle.tables.specs.Answers.{counted}
+use Rattle.tables.specs.declared.Reason.TheVariants.{NoRoom}
+use Rattle.std.proofs.Common.{Result, Ok, Err}
 use Rattle.checker.specs.Decide.{decide_checks}
 use Rattle.checker.specs.Run.{run_checks, run_answer, run_marks, run_steps}
 use Rattle.checker.specs.Demands.{RunDemand, RunDemands}
@@ -37,7 +36,7 @@ use Rattle.checker.proofs.DecideLaws.{decide_asked, none_fault}
 use Rattle.checker.proofs.DemandLaws.{marks_demand}
 
 -- turned back: the second slice is unchanged too
-pub run_turned_back : (s : List ℕ) (q : Question) (mode : ℕ) (r : Refusal) (first second : List ℕ) → run_checks s q mode (length first) (length second) ≡ Fault r
+pub run_turned_back : (s : List ℕ) (q : Question) (mode : ℕ) (r : Refusal) (first second : List ℕ) → run_checks s q mode (length first) (length second) ≡ Err r
     → (turned_back r ≡ run_answer s q mode (length first) (length second)) × ((first ≡ run_marks s q mode first (length second)) × (second ≡ run_steps s q mode (length first) second))
 unfolding run_answer run_marks run_steps
 run_turned_back s q mode r first second e =
@@ -45,22 +44,22 @@ run_turned_back s q mode r first second e =
     (told, (marks, (turned_back_lem _ r [] _ second e).1))
 
 -- as Decide
-pub decide_fault : (s : List ℕ) (q : Question) (mode : ℕ) (r : Refusal) (room more : ℕ) → decide_checks s q mode room ≡ Fault r → run_checks s q mode room more ≡ Fault r
+pub decide_fault : (s : List ℕ) (q : Question) (mode : ℕ) (r : Refusal) (room more : ℕ) → decide_checks s q mode room ≡ Err r → run_checks s q mode room more ≡ Err r
 unfolding run_checks
 decide_fault s q mode r room more e = then_fault _ _ r e
 
-module _ (s : List ℕ) (q : Question) (mode : ℕ) (a : mode_checks s q mode ≡ Passed) (room : ℕ) (long : (demand_of s q).n * (supply_of s q).n ≤ room) where
-  pub steps_fault : (more : ℕ) → more < 2 * ((demand_of s q).n * (supply_of s q).n) → run_checks s q mode room more ≡ Fault (refuse 14 0)
+module _ (s : List ℕ) (q : Question) (mode : ℕ) (a : mode_checks s q mode ≡ Ok tt) (room : ℕ) (long : (demand_of s q).n * (supply_of s q).n ≤ room) where
+  pub steps_fault : (more : ℕ) → more < 2 * ((demand_of s q).n * (supply_of s q).n) → run_checks s q mode room more ≡ Err (refuse NoRoom 0)
   unfolding run_checks ◌then◌ fault
   steps_fault more l = rw (none_fault s q mode a room long, lt-ltb more (2 * ((demand_of s q).n * (supply_of s q).n)) l) refl
 
-  pub no_fault : (more : ℕ) → 2 * ((demand_of s q).n * (supply_of s q).n) ≤ more → run_checks s q mode room more ≡ Passed
+  pub no_fault : (more : ℕ) → 2 * ((demand_of s q).n * (supply_of s q).n) ≤ more → run_checks s q mode room more ≡ Ok tt
   unfolding run_checks ◌then◌ fault
   no_fault more l = rw (none_fault s q mode a room long, le-ltb more (2 * ((demand_of s q).n * (supply_of s q).n)) l) refl
 
 -- ---- carried out
 
-module _ (s : List ℕ) (q : Question) (mode : ℕ) (a : mode_checks s q mode ≡ Passed) {demand supply : List ℕ} (x : PairLoaded s q demand supply) (m : Mode)
+module _ (s : List ℕ) (q : Question) (mode : ℕ) (a : mode_checks s q mode ≡ Ok tt) {demand supply : List ℕ} (x : PairLoaded s q demand supply) (m : Mode)
     (same : m ≡ mode_of mode) {p : Pair} (start : p ≡ pair_of q) where
   -- the run starts from the pair, and there is room
   pub run_starts : {first second : List ℕ} → (demand_of s q).n * (supply_of s q).n ≤ length first → 2 * ((demand_of s q).n * (supply_of s q).n) ≤ length second
@@ -102,11 +101,11 @@ module _ (file : List ℕ) (q : Question) (mode : ℕ) (first second : List ℕ)
   abbrev w : ℕ
   w = q.supply.state
 
-  outcome : (run_checks file q mode (length first) (length second) ≡ Passed) × (mark (mode_of mode) D S t w ∷ [] ≡ count ∷ [])
+  outcome : (run_checks file q mode (length first) (length second) ≡ Ok tt) × (mark (mode_of mode) D S t w ∷ [] ≡ count ∷ [])
   unfolding run_answer
   outcome = passed (run_checks file q mode (length first) (length second)) _ _ _ told
 
-  asked : pair_checks file q ≡ Passed
+  asked : pair_checks file q ≡ Ok tt
   unfolding run_checks
   asked = decide_asked file q mode (length first) (then_left _ _ outcome.0)
 
@@ -145,7 +144,7 @@ module _ (file : List ℕ) (q : Question) (mode : ℕ) (first second : List ℕ)
   }
 
 -- what Run ensures, from its answer and the two slices
-pub run_shown : (file : List ℕ) (q : Question) (mode : ℕ) (first second : List ℕ) {marked stepped : List ℕ} (r : Counted)
+pub run_shown : (file : List ℕ) (q : Question) (mode : ℕ) (first second : List ℕ) {marked stepped : List ℕ} (r : Result ℕ Refusal)
     → (counted r ≡ run_answer file q mode (length first) (length second)) × ((marked ≡ run_marks file q mode first (length second)) × (stepped ≡ run_steps file q mode (length first) second))
     → (counted r ≡ run_answer file q mode (length first) (length second)) × ((marked ≡ run_marks file q mode first (length second)) × ((stepped ≡ run_steps file q mode (length first) second)
     × RunDemands file q mode (counted r) marked stepped))

@@ -1,25 +1,17 @@
--- How the enums of the calls are read as answers in document 01's terms.
-use Rattle.std.specs.Prelude.{[], ◌∷◌}
+-- How what Decide and Join return is read as an answer in document 01's terms.
+use Rattle.std.specs.Prelude.{[], ◌∷◌, Result, Ok, Err}
 use Rattle.rules.specs.Below.{one}
+use Rattle.tables.specs.declared.Refusal.{Refusal}
 use Rattle.tables.specs.Answers.{Answer, carried_out, turned_back}
-use Rattle.checker.specs.declared.Counted.{Counted}
-use Rattle.checker.specs.declared.Counted.TheVariants as counts
-use Rattle.checker.specs.declared.Decided.{Decided}
-use Rattle.checker.specs.declared.Decided.TheVariants as decisions
-use Rattle.checker.specs.declared.Joined.{Joined}
-use Rattle.checker.specs.declared.Joined.TheVariants as joins
+use Rattle.checker.specs.declared.Verdict.{Verdict}
+use Rattle.checker.specs.declared.TableSize.{TableSize}
 
--- the cases of `Counted`: "The count is returned"
-abbrev pub counted : Counted → Answer
-counted (counts.Count n) = carried_out (n ∷ [])
-counted (counts.Refused r) = turned_back r
+-- Decide: "yes" as 1 or "no" as 0, "the count kept", "and rounds"
+abbrev pub decided : Result Verdict Refusal → Answer
+decided (Ok v) = carried_out (one v.yes ∷ v.kept ∷ v.rounds ∷ [])
+decided (Err r) = turned_back r
 
--- the cases of `Decided`: "yes" as 1 or "no" as 0, "the count kept", "and rounds"
-abbrev pub decided : Decided → Answer
-decided (decisions.Answered v) = carried_out (one v.yes ∷ v.kept ∷ v.rounds ∷ [])
-decided (decisions.Refused r) = turned_back r
-
--- the cases of `Joined`: "n and m are returned"
-abbrev pub joined : Joined → Answer
-joined (joins.Table t) = carried_out (t.states ∷ t.rows ∷ [])
-joined (joins.Refused r) = turned_back r
+-- Join: "n and m are returned"
+abbrev pub joined : Result TableSize Refusal → Answer
+joined (Ok t) = carried_out (t.states ∷ t.rows ∷ [])
+joined (Err r) = turned_back r

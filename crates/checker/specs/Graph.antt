@@ -1,9 +1,9 @@
 -- Graph. Document 02, L1, 'Graphs for the viewer.'
 use Rattle.std.specs.Prelude.{ℕ, ◌≡◌, List, [], ◌∷◌, ltb, length}
 use Rattle.rules.specs.Slices.{overwrite}
-use Rattle.tables.specs.declared.Checked.{Checked}
-use Rattle.tables.specs.Checks.{fault, ◌then◌}
+use Rattle.tables.specs.Checks.{Checked, fault, ◌then◌}
 use Rattle.tables.specs.Answers.{Answer, answer, carried_out, slice_after}
+use Rattle.tables.specs.declared.Reason.TheVariants.{NoRoom}
 use Rattle.graphs.specs.Graph.{graph_text, IsGraph}
 use Rattle.questions.specs.declared.Question.{Question}
 use Rattle.questions.specs.Pairs.{pair_checks, demand_of, supply_of, pair_of}
@@ -14,7 +14,7 @@ graph_text_at s q = graph_text (demand_of s q) (supply_of s q) (pair_of q)
 
 -- "Answers: as Moves of a pair, with 14 when the lent bytes are fewer than the text."; room is how many are lent
 unfoldable pub graph_checks : List ℕ → Question → ℕ → Checked
-graph_checks s q room = pair_checks s q then fault (ltb room (length (graph_text_at s q))) 14 0
+graph_checks s q room = pair_checks s q then fault (ltb room (length (graph_text_at s q))) NoRoom 0
 
 -- "Its length is returned"
 unfoldable pub graph_answer : List ℕ → Question → ℕ → Answer

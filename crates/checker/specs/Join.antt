@@ -6,8 +6,7 @@ use Rattle.rules.specs.Slices.{overwrite}
 use Rattle.rules.specs.Machines.{Table, Machine, machine}
 use Rattle.rules.specs.Actions.{Action, tasks, ◌∥◌}
 use Rattle.rules.specs.Join.{join_state, join, IsJoinRow}
-use Rattle.tables.specs.declared.Checked.{Checked}
-use Rattle.tables.specs.Checks.{◌then◌}
+use Rattle.tables.specs.Checks.{Checked, ◌then◌}
 use Rattle.tables.specs.Answers.{Answer, answer, carried_out, slice_after}
 use Rattle.tables.specs.File.{body_bytes}
 use Rattle.tables.specs.Accepted.{TableBody}

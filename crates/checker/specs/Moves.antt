@@ -3,9 +3,9 @@ use Rattle.std.specs.Prelude.{ℕ, ◌*◌, ltb, length}
 use mathlib.Core.List.{List, [], ◌∷◌, flat_map}
 use Rattle.rules.specs.Slices.{overwrite}
 use Rattle.rules.specs.Moves.{Candidate, survivors, numbers}
-use Rattle.tables.specs.declared.Checked.{Checked}
-use Rattle.tables.specs.Checks.{fault, ◌then◌}
+use Rattle.tables.specs.Checks.{Checked, fault, ◌then◌}
 use Rattle.tables.specs.Answers.{Answer, answer, slice_after}
+use Rattle.tables.specs.declared.Reason.TheVariants.{NoRoom}
 use Rattle.questions.specs.declared.Question.{Question}
 use Rattle.questions.specs.Pairs.{pair_checks, demand_of, supply_of}
 
@@ -15,7 +15,7 @@ survivors_at s q = survivors (demand_of s q) (supply_of s q) q.demand.state q.su
 
 -- "14 the lent slice of 16-bit numbers is shorter than 5 × the surviving moves"; room is its length
 unfoldable pub moves_checks : List ℕ → Question → ℕ → Checked
-moves_checks s q room = pair_checks s q then fault (ltb room (5 * length (survivors_at s q))) 14 0
+moves_checks s q room = pair_checks s q then fault (ltb room (5 * length (survivors_at s q))) NoRoom 0
 
 -- "The count is returned"
 unfoldable pub moves_answer : List ℕ → Question → ℕ → Answer

@@ -1,18 +1,21 @@
 // The join of two demand tables that nothing turns back before its rows are built: its rows, where they are not too many and there is room.
-ghost use Rattle.std.specs.Prelude.{◌≡◌, length};
-ghost use Rattle.tables.specs.declared.Checked.TheVariants.{Passed};
+ghost use Rattle.std.specs.Prelude.{◌≡◌, length, Ok};
 ghost use Rattle.questions.specs.Sizes.{size_checks};
 ghost use Rattle.checker.specs.Calls.{joined};
 ghost use Rattle.checker.specs.Join.{join_answer, join_slice};
 
-use crate::{Joined, TableSize};
-use joins::Written;
+use crate::TableSize;
 use machines::{Layout, load_table, pair_count};
 use tables::Refusal;
 
 // Writes the rows of the join where there is room.
-pub(crate) fn write_join(file: &[u8], first: usize, second: usize, out: &mut [u8]) -> Joined
-    requires { size_checks file.now first second ≡ Passed }
+pub(crate) fn write_join(
+    file: &[u8],
+    first: usize,
+    second: usize,
+    out: &mut [u8],
+) -> Result<TableSize, Refusal>
+    requires { size_checks file.now first second ≡ Ok tt }
     ensures answer { joined result ≡ join_answer file.now first second (length out.old) }
     ensures slice { out.new ≡ join_slice file.now first second out.old }
 {
@@ -21,9 +24,6 @@ pub(crate) fn write_join(file: &[u8], first: usize, second: usize, out: &mut [u8
     load_table(file, first, 0, &mut first_machine);
     load_table(file, second, 0, &mut second_machine);
     let states = pair_count(&first_machine, &second_machine);
-    match joins::write(&first_machine, &second_machine, out) {
-        Written::TooMany => Joined::Refused(Refusal::new(17, 0)),
-        Written::NoRoom => Joined::Refused(Refusal::new(14, 0)),
-        Written::Count(rows) => Joined::Table(TableSize { states, rows }),
-    }
+    let rows = joins::write(&first_machine, &second_machine, out)?;
+    Ok(TableSize { states, rows })
 }

@@ -6,7 +6,8 @@
 #![tactic(auto)]
 
 ghost use Rattle.std.specs.Prelude.{◌≡◌, length};
-ghost use Rattle.checker.specs.Calls.{counted, decided, joined};
+ghost use Rattle.tables.specs.Answers.{counted};
+ghost use Rattle.checker.specs.Calls.{decided, joined};
 ghost use Rattle.checker.specs.Moves.{moves_answer, moves_slice};
 ghost use Rattle.checker.specs.Graph.{graph_answer, graph_slice, GraphDemands};
 ghost use Rattle.checker.specs.Decide.{decide_answer, decide_slice};
@@ -15,19 +16,12 @@ ghost use Rattle.checker.specs.Demands.{MovesDemands, DecideDemands, RunDemands}
 ghost use Rattle.checker.specs.Join.{join_answer, join_slice, JoinDemands};
 
 use questions::{check_decision, check_join, check_pair};
-use tables::{Checked, Refusal};
+use tables::Refusal;
 
 mod joining;
 mod pairs;
 
 pub use questions::{Question, Side};
-
-// What a call that writes a list answers: how many moves, steps or bytes there are, or why the call is turned back.
-#[derive(Clone, Copy)]
-pub enum Counted {
-    Count(usize),
-    Refused(Refusal),
-}
 
 // What Decide finds: yes or no for the start pair, the count kept, and rounds.
 #[derive(Clone, Copy)]
@@ -37,13 +31,6 @@ pub struct Verdict {
     pub rounds: u16,
 }
 
-// What Decide answers: its verdict, or why it is turned back.
-#[derive(Clone, Copy)]
-pub enum Decided {
-    Answered(Verdict),
-    Refused(Refusal),
-}
-
 // How large a table is: `states` is document 01's n, and `rows` its m.
 #[derive(Clone, Copy)]
 pub struct TableSize {
@@ -51,46 +38,38 @@ pub struct TableSize {
     pub rows: usize,
 }
 
-// What Join answers: how large the joined table is, or why the call is turned back.
-#[derive(Clone, Copy)]
-pub enum Joined {
-    Table(TableSize),
-    Refused(Refusal),
-}
-
 // Moves of a pair: left, consumed, unmet, demand target and supply target of each surviving move.
-pub fn moves(file: &[u8], question: Question, out: &mut [u16]) -> Counted
+pub fn moves(file: &[u8], question: Question, out: &mut [u16]) -> Result<usize, Refusal>
     ensures answer { counted result ≡ moves_answer file.now question (length out.old) }
     ensures slice { out.new ≡ moves_slice file.now question out.old }
     ensures demands { MovesDemands file.now question (counted result) out.new }
 {
-    if let Checked::Fault(refusal) = check_pair(file, question) {
-        return Counted::Refused(refusal);
-    }
+    check_pair(file, question)?;
     pairs::write_moves(file, question, out)
 }
 
 // Graph: the surviving moves of all pairs of states as .aut text for a viewer, with the question's pair as its start.
-pub fn graph(file: &[u8], question: Question, out: &mut [u8]) -> Counted
+pub fn graph(file: &[u8], question: Question, out: &mut [u8]) -> Result<usize, Refusal>
     ensures answer { counted result ≡ graph_answer file.now question (length out.old) }
     ensures slice { out.new ≡ graph_slice file.now question out.old }
     ensures demands { GraphDemands file.now question (counted result) out.new }
 {
-    if let Checked::Fault(refusal) = check_pair(file, question) {
-        return Counted::Refused(refusal);
-    }
+    check_pair(file, question)?;
     pairs::write_graph(file, question, out)
 }
 
 // Decide: the marks of all pairs of states, by mode 0 (full) or 1 (partial), and what they say of the start pair.
-pub fn decide(file: &[u8], question: Question, mode: usize, marks: &mut [u16]) -> Decided
+pub fn decide(
+    file: &[u8],
+    question: Question,
+    mode: usize,
+    marks: &mut [u16],
+) -> Result<Verdict, Refusal>
     ensures answer { decided result ≡ decide_answer file.now question mode (length marks.old) }
     ensures slice { marks.new ≡ decide_slice file.now question mode marks.old }
     ensures demands { DecideDemands file.now question mode (decided result) marks.new }
 {
-    if let Checked::Fault(refusal) = check_decision(file, question, mode) {
-        return Decided::Refused(refusal);
-    }
+    check_decision(file, question, mode)?;
     pairs::write_marks(file, question, mode, marks)
 }
 
@@ -101,26 +80,22 @@ pub fn run(
     mode: usize,
     marks: &mut [u16],
     steps: &mut [u16],
-) -> Counted
+) -> Result<usize, Refusal>
     ensures answer { counted result ≡ run_answer file.now question mode (length marks.old) (length steps.old) }
     ensures marks { marks.new ≡ run_marks file.now question mode marks.old (length steps.old) }
     ensures steps { steps.new ≡ run_steps file.now question mode (length marks.old) steps.old }
     ensures demands { RunDemands file.now question mode (counted result) marks.new steps.new }
 {
-    if let Checked::Fault(refusal) = check_decision(file, question, mode) {
-        return Counted::Refused(refusal);
-    }
+    check_decision(file, question, mode)?;
     pairs::write_run(file, question, mode, marks, steps)
 }
 
 // Join: two demand tables, perhaps the same one, as one table whose states are the pairs of their states. Its body is written.
-pub fn join(file: &[u8], first: usize, second: usize, out: &mut [u8]) -> Joined
+pub fn join(file: &[u8], first: usize, second: usize, out: &mut [u8]) -> Result<TableSize, Refusal>
     ensures answer { joined result ≡ join_answer file.now first second (length out.old) }
     ensures slice { out.new ≡ join_slice file.now first second out.old }
     ensures demands { JoinDemands file.now first second (joined result) out.new }
 {
-    if let Checked::Fault(refusal) = check_join(file, first, second) {
-        return Joined::Refused(refusal);
-    }
+    check_join(file, first, second)?;
     joining::write_join(file, first, second, out)
 }

@@ -1,22 +1,26 @@
 // Questions about a pair of states that nothing turns back: the answers, and what is written where there is room.
-ghost use Rattle.std.specs.Prelude.{◌≡◌, length};
-ghost use Rattle.tables.specs.declared.Checked.TheVariants.{Passed};
+ghost use Rattle.std.specs.Prelude.{◌≡◌, length, Ok};
+ghost use Rattle.tables.specs.Answers.{counted};
 ghost use Rattle.questions.specs.Pairs.{pair_checks};
 ghost use Rattle.questions.specs.Modes.{mode_checks};
-ghost use Rattle.checker.specs.Calls.{counted, decided};
+ghost use Rattle.checker.specs.Calls.{decided};
 ghost use Rattle.checker.specs.Moves.{moves_answer, moves_slice};
 ghost use Rattle.checker.specs.Graph.{graph_answer, graph_slice};
 ghost use Rattle.checker.specs.Decide.{decide_answer, decide_slice};
 ghost use Rattle.checker.specs.Run.{run_answer, run_marks, run_steps};
 
-use crate::{Counted, Decided, Verdict};
+use crate::Verdict;
 use machines::{Layout, pair_count};
 use questions::{Question, load_pair, mode_of};
-use tables::Refusal;
+use tables::{Reason, Refusal};
 
 // Counts the surviving moves of the pair, and writes them where there is room.
-pub(crate) fn write_moves(file: &[u8], question: Question, out: &mut [u16]) -> Counted
-    requires { pair_checks file.now question ≡ Passed }
+pub(crate) fn write_moves(
+    file: &[u8],
+    question: Question,
+    out: &mut [u16],
+) -> Result<usize, Refusal>
+    requires { pair_checks file.now question ≡ Ok tt }
     ensures answer { counted result ≡ moves_answer file.now question (length out.old) }
     ensures slice { out.new ≡ moves_slice file.now question out.old }
 {
@@ -25,15 +29,15 @@ pub(crate) fn write_moves(file: &[u8], question: Question, out: &mut [u16]) -> C
     let pair = load_pair(file, question, &mut demand, &mut supply);
     let count = moves::count(&demand, &supply, pair);
     if out.len() / moves::ENTRIES_PER_MOVE < count {
-        return Counted::Refused(Refusal::new(14, 0));
+        return Err(Refusal::new(Reason::NoRoom, 0));
     }
     moves::write(&demand, &supply, pair, out);
-    Counted::Count(count)
+    Ok(count)
 }
 
 // Measures the text of the surviving moves of all pairs of states, and writes it where there is room.
-pub(crate) fn write_graph(file: &[u8], question: Question, out: &mut [u8]) -> Counted
-    requires { pair_checks file.now question ≡ Passed }
+pub(crate) fn write_graph(file: &[u8], question: Question, out: &mut [u8]) -> Result<usize, Refusal>
+    requires { pair_checks file.now question ≡ Ok tt }
     ensures answer { counted result ≡ graph_answer file.now question (length out.old) }
     ensures slice { out.new ≡ graph_slice file.now question out.old }
 {
@@ -42,10 +46,10 @@ pub(crate) fn write_graph(file: &[u8], question: Question, out: &mut [u8]) -> Co
     let start = load_pair(file, question, &mut demand, &mut supply);
     let extent = graphs::measure(&demand, &supply, start);
     if out.len() < extent.bytes {
-        return Counted::Refused(Refusal::new(14, 0));
+        return Err(Refusal::new(Reason::NoRoom, 0));
     }
     graphs::write(&demand, &supply, start, extent.lines, out);
-    Counted::Count(extent.bytes)
+    Ok(extent.bytes)
 }
 
 // Writes the marks of all pairs of states where there is room, and reads the start pair's.
@@ -54,8 +58,8 @@ pub(crate) fn write_marks(
     question: Question,
     mode: usize,
     marks: &mut [u16],
-) -> Decided
-    requires { mode_checks file.now question mode ≡ Passed }
+) -> Result<Verdict, Refusal>
+    requires { mode_checks file.now question mode ≡ Ok tt }
     ensures answer { decided result ≡ decide_answer file.now question mode (length marks.old) }
     ensures slice { marks.new ≡ decide_slice file.now question mode marks.old }
 {
@@ -63,10 +67,10 @@ pub(crate) fn write_marks(
     let mut supply = [0u32; Layout::ENTRIES];
     let start = load_pair(file, question, &mut demand, &mut supply);
     if marks.len() < pair_count(&demand, &supply) {
-        return Decided::Refused(Refusal::new(14, 0));
+        return Err(Refusal::new(Reason::NoRoom, 0));
     }
     let summary = marks::write(&demand, &supply, mode_of(mode), marks);
-    Decided::Answered(Verdict {
+    Ok(Verdict {
         yes: marks::mark_of(&supply, marks, start) == 0,
         kept: summary.kept,
         rounds: summary.rounds,
@@ -80,8 +84,8 @@ pub(crate) fn write_run(
     mode: usize,
     marks: &mut [u16],
     steps: &mut [u16],
-) -> Counted
-    requires { mode_checks file.now question mode ≡ Passed }
+) -> Result<usize, Refusal>
+    requires { mode_checks file.now question mode ≡ Ok tt }
     ensures answer { counted result ≡ run_answer file.now question mode (length marks.old) (length steps.old) }
     ensures marks { marks.new ≡ run_marks file.now question mode marks.old (length steps.old) }
     ensures steps { steps.new ≡ run_steps file.now question mode (length marks.old) steps.old }
@@ -91,11 +95,11 @@ pub(crate) fn write_run(
     let start = load_pair(file, question, &mut demand, &mut supply);
     let pairs = pair_count(&demand, &supply);
     if marks.len() < pairs {
-        return Counted::Refused(Refusal::new(14, 0));
+        return Err(Refusal::new(Reason::NoRoom, 0));
     }
     if steps.len() < 2 * pairs {
-        return Counted::Refused(Refusal::new(14, 0));
+        return Err(Refusal::new(Reason::NoRoom, 0));
     }
     let count = runs::write(&demand, &supply, mode_of(mode), start, marks, steps);
-    Counted::Count(count as usize)
+    Ok(count as usize)
 }

@@ -8,7 +8,6 @@ use borrow.Author.Tests.{leb-false}
 use Rattle.rules.specs.Machines.{Machine, Sound, widen}
 use Rattle.rules.proofs.BelowLaws.{few_pairs}
 use Rattle.rules.proofs.MachineLaws.{widen_none}
-use Rattle.tables.specs.declared.Checked.TheVariants.{Passed}
 use Rattle.tables.specs.File.{tables_of, entry_of, body_length, body_of}
 use Rattle.tables.specs.Open.{file_fault}
 use Rattle.tables.specs.Accepted.{TableBody, Accepted}
@@ -16,6 +15,7 @@ use Rattle.tables.specs.Tables.{table_of, machine_of}
 use Rattle.tables.proofs.CheckLaws.{fault_passed, then_left, then_right}
 use Rattle.tables.proofs.AcceptedLaws.{passed_accepted, accepted_laid}
 use Rattle.tables.proofs.TableLaws.{body_sound}
+use Rattle.std.proofs.Common.{Ok}
 use Rattle.machines.specs.Memory.{states_in, machine_in, InMemory}
 use Rattle.machines.specs.Load.{LoadsTable}
 use Rattle.questions.specs.declared.Question.{Question}
@@ -31,7 +31,7 @@ pub record TableAt (s : List ℕ) (i q : ℕ) : Type 0 where
   pub table : TableBody (entry_of s i).states (entry_of s i).rows (body_of s i)
   pub state : q < (table_of s i).n
 
-pub table_at : (s : List ℕ) (i q : ℕ) → file_fault s ≡ Passed → i < tables_of s → q < (table_of s i).n → TableAt s i q
+pub table_at : (s : List ℕ) (i q : ℕ) → file_fault s ≡ Ok tt → i < tables_of s → q < (table_of s i).n → TableAt s i q
 table_at s i q p l h =
     let a : Accepted s (tables_of s) = passed_accepted s p in
     record { within = (accepted_laid s (tables_of s) a).within i l; table = a.table i l; state = h }
@@ -40,8 +40,8 @@ pub table_at_sound : (s : List ℕ) (i q : ℕ) → TableAt s i q → Sound (mac
 table_at_sound s i q t = body_sound (entry_of s i).states (entry_of s i).rows (body_of s i) t.table
 
 -- of two tables that a call names, both are in the file
-module _ (s : List ℕ) (x y : Named) (e : named_checks s x y ≡ Passed) where
-  pub file_passed : file_fault s ≡ Passed
+module _ (s : List ℕ) (x y : Named) (e : named_checks s x y ≡ Ok tt) where
+  pub file_passed : file_fault s ≡ Ok tt
   unfolding named_checks
   file_passed = then_left _ _ e
 
@@ -53,8 +53,8 @@ module _ (s : List ℕ) (x y : Named) (e : named_checks s x y ≡ Passed) where
   unfolding named_checks
   second_named = leb-false _ _ (fault_passed _ _ _ (then_left _ _ (then_right _ _ (then_right _ _ e))))
 
-module _ (s : List ℕ) (q : Question) (a : pair_checks s q ≡ Passed) where
-  tables_named : named_checks s (as_demand q.demand.table) (as_supply q.supply.table) ≡ Passed
+module _ (s : List ℕ) (q : Question) (a : pair_checks s q ≡ Ok tt) where
+  tables_named : named_checks s (as_demand q.demand.table) (as_supply q.supply.table) ≡ Ok tt
   unfolding pair_checks
   tables_named = then_left _ _ a
 

@@ -3,65 +3,61 @@ use Prim.Native.Nat.{ℕ, ◌≤◌, ◌<◌}
 use mathlib.Core.Path.{◌≡◌, refl, sym, ap}
 use mathlib.Core.Bool.{false, not}
 use mathlib.Core.List.{List}
-use native.Mathlib.Omega.{arith}
 use lib.Dec.{eqb}
 use borrow.Author.Tests.{leb-false, le-leb, lt-leb, eq-eqb}
 use Rattle.tables.specs.declared.Refusal.{Refusal}
-use Rattle.tables.specs.declared.Checked.{Checked}
-use Rattle.tables.specs.declared.Checked.TheVariants.{Passed, Fault}
-use Rattle.tables.specs.declared.Opened.{Opened}
-use Rattle.tables.specs.declared.Opened.TheVariants.{Tables, Refused}
-use Rattle.tables.specs.Checks.{refuse, fault, ◌then◌}
-use Rattle.tables.specs.Answers.{opened}
+use Rattle.tables.specs.Checks.{Checked, refuse, fault, ◌then◌}
+use Rattle.tables.specs.Answers.{counted}
 use Rattle.tables.specs.File.{tables_of, entry_of}
 use Rattle.tables.specs.Tables.{table_of}
 use Rattle.tables.specs.Open.{file_fault, open_of}
 use Rattle.tables.proofs.CheckLaws.{fault_passed, passed_fault, then_left, then_right, then_both}
 use Rattle.tables.proofs.AcceptedLaws.{passed_accepted, tables_passed, refused_fault}
+use Rattle.tables.specs.declared.Reason.TheVariants.{WrongKind}
+use Rattle.std.proofs.Common.{Result, Ok, Err}
 use Rattle.questions.specs.declared.Side.{Side}
 use Rattle.questions.specs.declared.Question.{Question}
 use Rattle.questions.specs.Named.{named_checks}
 use Rattle.questions.specs.Pairs.{pair_checks}
-use Rattle.questions.specs.declared.programs.Asked.TheVariants as asked
 use Rattle.questions.specs.Questions.{first_of, first_demand, first_supply, start_of, start_side, question_of, program_checks, asked_after, asked_of}
 use Rattle.questions.proofs.TableLaws.{first_kind, start_below}
 
 -- ---- by what opening finds
 
-module _ (s : List ℕ) (o : Opened) (e : opened o ≡ open_of s) where
-  pub not_opened : (r : Refusal) → o ≡ Refused r → asked.Refused r ≡ asked_of s
+module _ (s : List ℕ) (o : Result ℕ Refusal) (e : counted o ≡ open_of s) where
+  pub not_opened : (r : Refusal) → o ≡ Err r → Err r ≡ asked_of s
   unfolding asked_of program_checks ◌then◌
   not_opened r p = rw (refused_fault s r (rw p at e)) refl
 
-  module _ (k : ℕ) (p : o ≡ Tables k) where
-    file_passed : (file_fault s ≡ Passed) × (tables_of s ≡ k)
+  module _ (k : ℕ) (p : o ≡ Ok k) where
+    file_passed : (file_fault s ≡ Ok tt) × (tables_of s ≡ k)
     file_passed = tables_passed s k (rw p at e)
 
     module _ (d : ℕ) (demand : d ≡ first_of s 1 k) where
-      pub no_demand : k ≤ d → asked.Refused (refuse 12 0) ≡ asked_of s
+      pub no_demand : k ≤ d → Err (refuse WrongKind 0) ≡ asked_of s
       unfolding asked_of program_checks ◌then◌ fault
       no_demand h = rw (file_passed.0, file_passed.1, sym demand, le-leb k d h) refl
 
       module _ (u : ℕ) (supply : u ≡ first_of s 2 k) (l : d < k) where
-        pub no_supply : k ≤ u → asked.Refused (refuse 12 0) ≡ asked_of s
+        pub no_supply : k ≤ u → Err (refuse WrongKind 0) ≡ asked_of s
         unfolding asked_of program_checks ◌then◌ fault
         no_supply h = rw (file_passed.0, file_passed.1, sym demand, sym supply, lt-leb k d l, le-leb k u h) refl
 
-        program_passed : u < k → program_checks s ≡ Passed
+        program_passed : u < k → program_checks s ≡ Ok tt
         unfolding program_checks ◌then◌ fault
         program_passed h = rw (file_passed.0, file_passed.1, sym demand, sym supply, lt-leb k d l, lt-leb k u h) refl
 
         question_is : {x y : Side} → x ≡ start_side s d → y ≡ start_side s u → record { demand = x; supply = y } ≡ question_of s
         question_is f g = rw (file_passed.1, sym demand, sym supply) (λ i. record { demand = f i; supply = g i })
 
-        pub both_there : u < k → {x y : Side} → x ≡ start_side s d → y ≡ start_side s u → asked.Question (record { demand = x; supply = y }) ≡ asked_of s
+        pub both_there : u < k → {x y : Side} → x ≡ start_side s d → y ≡ start_side s u → Ok (record { demand = x; supply = y }) ≡ asked_of s
         unfolding asked_of
-        both_there h f g = rw (program_passed h) (ap asked.Question (question_is f g))
+        both_there h f g = rw (program_passed h) (ap Ok (question_is f g))
 
 -- ---- the question is about a pair of states
 
-module _ (s : List ℕ) (passed : program_checks s ≡ Passed) where
-  file_fault_lem : file_fault s ≡ Passed
+module _ (s : List ℕ) (passed : program_checks s ≡ Ok tt) where
+  file_fault_lem : file_fault s ≡ Ok tt
   unfolding program_checks
   file_fault_lem = then_left _ _ passed
 
@@ -79,7 +75,7 @@ module _ (s : List ℕ) (passed : program_checks s ≡ Passed) where
   kind_right : (kind i : ℕ) → (entry_of s i).kind ≡ kind → not (eqb (entry_of s i).kind kind) ≡ false
   kind_right kind i h = rw (eq-eqb _ _ h) refl
 
-  pub question_asked : pair_checks s (question_of s) ≡ Passed
+  pub question_asked : pair_checks s (question_of s) ≡ Ok tt
   unfolding pair_checks named_checks
   question_asked =
       then_both _ _
@@ -92,22 +88,22 @@ module _ (s : List ℕ) (passed : program_checks s ≡ Passed) where
 -- ---- by what is asked
 
 module _ (s : List ℕ) where
-  pub asked_refused : (r : Refusal) → asked_of s ≡ asked.Refused r → program_checks s ≡ Fault r
+  pub asked_refused : (r : Refusal) → asked_of s ≡ Err r → program_checks s ≡ Err r
   unfolding asked_of
   asked_refused r e = go (program_checks s) e
     where
-      go : (c : Checked) → asked_after c s ≡ asked.Refused r → c ≡ Fault r
-      go (Fault f) e = cc
-      go Passed e = let z : ◌≡◌ {A = ℕ} 0 1 = cc in absurd (omega arith)
+      go : (c : Checked) → asked_after c s ≡ Err r → c ≡ Err r
+      go (Err f) e = cc
+      go (Ok u) e = cc
 
-  pub asked_question : (q : Question) → asked_of s ≡ asked.Question q → (program_checks s ≡ Passed) × (question_of s ≡ q)
+  pub asked_question : (q : Question) → asked_of s ≡ Ok q → (program_checks s ≡ Ok tt) × (question_of s ≡ q)
   unfolding asked_of
   asked_question q e = go (program_checks s) e
     where
-      go : (c : Checked) → asked_after c s ≡ asked.Question q → (c ≡ Passed) × (question_of s ≡ q)
-      go (Fault f) e = let z : ◌≡◌ {A = ℕ} 0 1 = cc in absurd (omega arith)
-      go Passed e = (refl, cc)
+      go : (c : Checked) → asked_after c s ≡ Ok q → (c ≡ Ok tt) × (question_of s ≡ q)
+      go (Err f) e = cc
+      go (Ok u) e = (refl, cc)
 
   -- no check of a call about a question that is asked finds a fault
-  pub asked_passes : (q : Question) → asked_of s ≡ asked.Question q → pair_checks s q ≡ Passed
+  pub asked_passes : (q : Question) → asked_of s ≡ Ok q → pair_checks s q ≡ Ok tt
   asked_passes q e = let (passed, same) = asked_question q e in rw same at (question_asked s passed)

@@ -4,18 +4,18 @@ use mathlib.Core.Path.{◌≡◌}
 use mathlib.Core.List.{List}
 use native.Mathlib.Omega.{arith}
 use borrow.Author.Tests.{ltb-false}
-use Rattle.tables.specs.declared.Checked.TheVariants.{Passed}
 use Rattle.tables.specs.File.{tables_of}
 use Rattle.tables.specs.Accepted.{Accepted}
 use Rattle.tables.specs.Tables.{table_of}
 use Rattle.tables.proofs.CheckLaws.{fault_passed, then_left, then_right}
 use Rattle.tables.proofs.AcceptedLaws.{passed_accepted}
+use Rattle.std.proofs.Common.{Ok}
 use Rattle.questions.specs.Named.{named_checks, as_demand}
 use Rattle.questions.specs.Sizes.{size_checks}
 use Rattle.questions.proofs.PairLaws.{TableAt, table_at, file_passed, first_named, second_named}
 
-module _ (s : List ℕ) (i j : ℕ) (a : size_checks s i j ≡ Passed) where
-  named : named_checks s (as_demand i) (as_demand j) ≡ Passed
+module _ (s : List ℕ) (i j : ℕ) (a : size_checks s i j ≡ Ok tt) where
+  named : named_checks s (as_demand i) (as_demand j) ≡ Ok tt
   unfolding size_checks
   named = then_left _ _ a
 

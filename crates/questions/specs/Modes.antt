@@ -2,8 +2,8 @@
 use Rattle.std.specs.Prelude.{ℕ, cond, List, ltb, eqb}
 use Rattle.rules.specs.declared.Mode.{Mode}
 use Rattle.rules.specs.declared.Mode.TheVariants.{Full, Partial}
-use Rattle.tables.specs.declared.Checked.{Checked}
-use Rattle.tables.specs.Checks.{fault, ◌then◌}
+use Rattle.tables.specs.Checks.{Checked, fault, ◌then◌}
+use Rattle.tables.specs.declared.Reason.TheVariants.{NoMode}
 use Rattle.questions.specs.declared.Question.{Question}
 use Rattle.questions.specs.Pairs.{pair_checks}
 
@@ -13,4 +13,4 @@ mode_of m = cond (eqb m 0) Full Partial
 
 -- "After 11, 12, 13 as above: 15 another mode"
 unfoldable pub mode_checks : List ℕ → Question → ℕ → Checked
-mode_checks s q mode = pair_checks s q then fault (ltb 1 mode) 15 0
+mode_checks s q mode = pair_checks s q then fault (ltb 1 mode) NoMode 0

@@ -3,9 +3,9 @@ use Rattle.std.specs.Prelude.{ℕ, ◌≡◌, List, leb}
 use Rattle.rules.specs.declared.Pair.{Pair}
 use Rattle.rules.specs.Rows.{pair}
 use Rattle.rules.specs.Machines.{Machine}
-use Rattle.tables.specs.declared.Checked.{Checked}
-use Rattle.tables.specs.Checks.{fault, ◌then◌}
+use Rattle.tables.specs.Checks.{Checked, fault, ◌then◌}
 use Rattle.tables.specs.Tables.{table_of, machine_of}
+use Rattle.tables.specs.declared.Reason.TheVariants.{NoState}
 use Rattle.machines.specs.Memory.{machine_in, TwoMachines}
 use Rattle.questions.specs.declared.Question.{Question}
 use Rattle.questions.specs.Named.{named_checks, as_demand, as_supply}
@@ -14,8 +14,8 @@ use Rattle.questions.specs.Named.{named_checks, as_demand, as_supply}
 unfoldable pub pair_checks : List ℕ → Question → Checked
 pair_checks s q =
     named_checks s (as_demand q.demand.table) (as_supply q.supply.table)
-    then fault (leb (table_of s q.demand.table).n q.demand.state) 13 0
-    then fault (leb (table_of s q.supply.table).n q.supply.state) 13 0
+    then fault (leb (table_of s q.demand.table).n q.demand.state) NoState 0
+    then fault (leb (table_of s q.supply.table).n q.supply.state) NoState 0
 
 -- the two machines
 abbrev pub demand_of : List ℕ → Question → Machine

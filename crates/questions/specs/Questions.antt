@@ -1,20 +1,25 @@
 -- What a program asks about a file: its first demand table beside its first supply table, each from its start. Document 01, 'The program'.
-use Rattle.std.specs.Prelude.{ℕ, zero, suc, cond, List, ltb, leb, eqb}
-use Rattle.tables.specs.declared.Checked.{Checked}
-use Rattle.tables.specs.declared.Checked.TheVariants.{Passed, Fault}
-use Rattle.tables.specs.Checks.{fault, ◌then◌}
+use Rattle.std.specs.Prelude.{ℕ, zero, suc, cond, List, ltb, leb, eqb, Result, Ok, Err, Option, find}
+use Rattle.std.specs.List.{range_with_len}
+use Rattle.tables.specs.Checks.{Checked, fault, ◌then◌}
+use Rattle.tables.specs.declared.kinds.Kind.{Kind}
+use Rattle.tables.specs.Kinds.{code_of}
 use Rattle.tables.specs.File.{tables_of, entry_of}
 use Rattle.tables.specs.Open.{file_fault}
 use Rattle.tables.specs.Tables.{table_of}
+use Rattle.tables.specs.declared.Reason.TheVariants.{WrongKind}
 use Rattle.questions.specs.declared.Side.{Side}
 use Rattle.questions.specs.declared.Question.{Question}
-use Rattle.questions.specs.declared.programs.Asked.{Asked}
-use Rattle.questions.specs.declared.programs.Asked.TheVariants as asked
+use Rattle.tables.specs.declared.Refusal.{Refusal}
 
 -- the first of the tables 0 to k - 1 that is of a kind, or k where none is
 unfoldable pub first_of : List ℕ → ℕ → ℕ → ℕ
 first_of s kind zero = 0
 first_of s kind (suc i) = cond (ltb (first_of s kind i) i) (first_of s kind i) (cond (eqb (entry_of s i).kind kind) i (suc i))
+
+-- the same as a search, with none where none is (`found_first`)
+abbrev pub first_found : List ℕ → Kind → ℕ → Option ℕ
+first_found s kind k = find (λ i. eqb (entry_of s i).kind (code_of kind)) (range_with_len 0 k)
 
 -- "the first demand and the first supply table"
 abbrev pub first_demand : List ℕ → ℕ
@@ -37,13 +42,13 @@ question_of s = record { demand = start_side s (first_demand s); supply = start_
 
 -- "a missing kind is 12 at 0"
 unfoldable pub program_checks : List ℕ → Checked
-program_checks s = file_fault s then fault (leb (tables_of s) (first_demand s)) 12 0 then fault (leb (tables_of s) (first_supply s)) 12 0
+program_checks s = file_fault s then fault (leb (tables_of s) (first_demand s)) WrongKind 0 then fault (leb (tables_of s) (first_supply s)) WrongKind 0
 
 -- the question, or why the file is turned back, by what the checks find
-abbrev pub asked_after : Checked → List ℕ → Asked
-asked_after (Fault r) s = asked.Refused r
-asked_after Passed s = asked.Question (question_of s)
+abbrev pub asked_after : Checked → List ℕ → Result Question Refusal
+asked_after (Err r) s = Err r
+asked_after (Ok u) s = Ok (question_of s)
 
 -- what is asked about a file
-unfoldable pub asked_of : List ℕ → Asked
+unfoldable pub asked_of : List ℕ → Result Question Refusal
 asked_of s = asked_after (program_checks s) s

@@ -4,13 +4,12 @@
 // `machines` for loading.
 #![tactic(auto)]
 
-ghost use Rattle.std.specs.Prelude.{◌≡◌, length, ◌≤◌};
-ghost use Rattle.tables.specs.declared.Checked.TheVariants.{Passed};
+ghost use Rattle.std.specs.Prelude.{◌≡◌, length, ◌≤◌, Ok};
 ghost use Rattle.questions.specs.Pairs.{pair_checks, pair_of, PairLoaded};
 
 use machines::load_table;
 use rules::Pair;
-use tables::{Checked, Refusal, states_of};
+use tables::{Reason, Refusal, states_of};
 
 mod modes;
 mod named;
@@ -19,7 +18,7 @@ mod sizes;
 
 pub use modes::{check_decision, mode_of};
 pub use named::{Named, check_named};
-pub use programs::{Asked, ask};
+pub use programs::ask;
 pub use sizes::check_join;
 
 // One side of a question: the number of a table, and a state of it.
@@ -37,27 +36,24 @@ pub struct Question {
 }
 
 // What turns back a question about a pair.
-pub fn check_pair(file: &[u8], question: Question) -> Checked
+pub fn check_pair(file: &[u8], question: Question) -> Result<(), Refusal>
     ensures { result ≡ pair_checks file.now question }
 {
     let demand = Named::demand(question.demand.table);
     let supply = Named::supply(question.supply.table);
-    let found = check_named(file, demand, supply);
-    if let Checked::Fault(_) = found {
-        return found;
-    }
+    check_named(file, demand, supply)?;
     if (states_of(file, question.demand.table) as usize) <= question.demand.state {
-        return Checked::Fault(Refusal::new(13, 0));
+        return Err(Refusal::new(Reason::NoState, 0));
     }
     if (states_of(file, question.supply.table) as usize) <= question.supply.state {
-        return Checked::Fault(Refusal::new(13, 0));
+        return Err(Refusal::new(Reason::NoState, 0));
     }
-    Checked::Passed
+    Ok(())
 }
 
 // Loads the two tables that a question names, and returns the pair that it asks about.
 pub fn load_pair(file: &[u8], question: Question, demand: &mut [u32], supply: &mut [u32]) -> Pair
-    requires { (pair_checks file.now question ≡ Passed) × (579 ≤ length demand.old) × (579 ≤ length supply.old) }
+    requires { (pair_checks file.now question ≡ Ok tt) × (579 ≤ length demand.old) × (579 ≤ length supply.old) }
     ensures pair { result ≡ pair_of question }
     ensures loaded { PairLoaded file.now question demand.new supply.new }
     ensures demand_length { length demand.new ≡ length demand.old }

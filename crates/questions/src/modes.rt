@@ -4,20 +4,17 @@ ghost use Rattle.questions.specs.Modes.{mode_of, mode_checks};
 
 use crate::{Question, check_pair};
 use rules::Mode;
-use tables::{Checked, Refusal};
+use tables::{Reason, Refusal};
 
 // What turns back a question about a pair in a mode.
-pub fn check_decision(file: &[u8], question: Question, mode: usize) -> Checked
+pub fn check_decision(file: &[u8], question: Question, mode: usize) -> Result<(), Refusal>
     ensures { result ≡ mode_checks file.now question mode }
 {
-    let found = check_pair(file, question);
-    if let Checked::Fault(_) = found {
-        return found;
-    }
+    check_pair(file, question)?;
     if 1 < mode {
-        return Checked::Fault(Refusal::new(15, 0));
+        return Err(Refusal::new(Reason::NoMode, 0));
     }
-    Checked::Passed
+    Ok(())
 }
 
 // The mode with a number: 0 full, 1 partial.

@@ -2,13 +2,13 @@
 ghost use Rattle.std.specs.Prelude.{◌≡◌};
 ghost use Rattle.questions.specs.Named.{named_checks, as_demand, as_supply};
 
-use tables::{Checked, Entry, Opened, Refusal, entry_at, open, refusal_of};
+use tables::{Kind, Reason, Refusal, entry_at, open};
 
 // A table that a call names: its number, and the kind that it has to be.
 #[derive(Clone, Copy)]
 pub struct Named {
     pub table: usize,
-    pub kind: u8,
+    pub kind: Kind,
 }
 
 impl Named {
@@ -17,7 +17,7 @@ impl Named {
     {
         Named {
             table,
-            kind: Entry::DEMAND,
+            kind: Kind::Demand,
         }
     }
 
@@ -26,30 +26,30 @@ impl Named {
     {
         Named {
             table,
-            kind: Entry::SUPPLY,
+            kind: Kind::Supply,
         }
     }
 }
 
 // What turns back a call that names two tables of a file.
-pub fn check_named(file: &[u8], first: Named, second: Named) -> Checked
+pub fn check_named(file: &[u8], first: Named, second: Named) -> Result<(), Refusal>
     ensures { result ≡ named_checks file.now first second }
 {
     let found = open(file);
-    let Opened::Tables(k) = found else {
-        return Checked::Fault(refusal_of(found));
+    let Ok(k) = found else {
+        return Err(found.unwrap_err());
     };
     if k <= first.table {
-        return Checked::Fault(Refusal::new(11, 0));
+        return Err(Refusal::new(Reason::NoTable, 0));
     }
     if k <= second.table {
-        return Checked::Fault(Refusal::new(11, 0));
+        return Err(Refusal::new(Reason::NoTable, 0));
     }
-    if entry_at(file, first.table).kind != first.kind {
-        return Checked::Fault(Refusal::new(12, 0));
+    if entry_at(file, first.table).kind != first.kind.code() {
+        return Err(Refusal::new(Reason::WrongKind, 0));
     }
-    if entry_at(file, second.table).kind != second.kind {
-        return Checked::Fault(Refusal::new(12, 0));
+    if entry_at(file, second.table).kind != second.kind.code() {
+        return Err(Refusal::new(Reason::WrongKind, 0));
     }
-    Checked::Passed
+    Ok(())
 }

@@ -4,19 +4,16 @@ ghost use Rattle.questions.specs.Sizes.{size_checks};
 
 use crate::named::{Named, check_named};
 use rules::Limits;
-use tables::{Checked, Refusal, states_of};
+use tables::{Reason, Refusal, states_of};
 
 // What turns back a join before its rows are built.
-pub fn check_join(file: &[u8], first: usize, second: usize) -> Checked
+pub fn check_join(file: &[u8], first: usize, second: usize) -> Result<(), Refusal>
     ensures { result ≡ size_checks file.now first second }
 {
-    let found = check_named(file, Named::demand(first), Named::demand(second));
-    if let Checked::Fault(_) = found {
-        return found;
-    }
+    check_named(file, Named::demand(first), Named::demand(second))?;
     let states = states_of(file, first) as usize * states_of(file, second) as usize;
     if Limits::STATES < states {
-        return Checked::Fault(Refusal::new(16, 0));
+        return Err(Refusal::new(Reason::TooManyStates, 0));
     }
-    Checked::Passed
+    Ok(())
 }

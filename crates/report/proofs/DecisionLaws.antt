@@ -12,14 +12,15 @@ use Rattle.rules.specs.Machines.{Machine}
 use Rattle.rules.specs.Rounds.{mark, kept_count, rounds}
 use Rattle.rules.proofs.BelowLaws.{one_same}
 use Rattle.tables.specs.declared.Refusal.{Refusal}
-use Rattle.tables.specs.declared.Checked.TheVariants.{Passed}
-use Rattle.tables.specs.Answers.{Answer, answer, carried_out, turned_back, slice_after}
+use Rattle.tables.specs.Answers.{Answer, answer, counted, carried_out, turned_back, slice_after}
+use Rattle.std.proofs.Common.{Result, Ok, Err, IsOk}
 use Rattle.questions.specs.declared.Question.{Question}
 use Rattle.questions.specs.Pairs.{pair_checks, demand_of, supply_of}
 use Rattle.questions.specs.Modes.{mode_of}
 use Rattle.questions.proofs.PairLaws.{asked_demand, asked_supply}
 use Rattle.questions.proofs.ModeLaws.{known_mode}
 use Rattle.checker.specs.declared.Verdict.{Verdict}
+use Rattle.checker.specs.Calls.{decided}
 use Rattle.checker.specs.Decide.{decide_answer}
 use Rattle.checker.specs.Run.{run_checks, run_answer, run_steps}
 use Rattle.checker.proofs.DecideLaws.{none_fault}
@@ -35,7 +36,7 @@ values_refused r x xs e = let none : 0 ≡ suc (length xs) = ap (λ (a : Answer)
 pub found_is : {v w : Verdict} {m n : ℕ} → v ≡ w → m ≡ n → ◌≡◌ {A = Found} (record { verdict = v; steps = m }) (record { verdict = w; steps = n })
 found_is e f = λ i. record { verdict = e i; steps = f i }
 
-module _ (s : List ℕ) (q : Question) (a : pair_checks s q ≡ Passed) where
+module _ (s : List ℕ) (q : Question) (a : pair_checks s q ≡ Ok tt) where
   pub few_pairs : (demand_of s q).n * (supply_of s q).n ≤ 4096
   few_pairs = mul-le-mul (asked_demand s q a).table.few_states (asked_supply s q a).table.few_states
 
@@ -56,8 +57,9 @@ module _ (s : List ℕ) (q : Question) (a : pair_checks s q ≡ Passed) where
     unfolding decide_answer answer
     decided_is = rw (none_fault s q mode (known_mode s q mode a known) room long) refl
 
-    pub decide_refused : (r : Refusal) → turned_back r ≡ decide_answer s q mode room → ⊥
-    decide_refused r e = values_refused r _ _ (e ∙ decided_is)
+    pub decide_ok : (d : Result Verdict Refusal) → decided d ≡ decide_answer s q mode room → IsOk d
+    decide_ok (Ok v) e = refl
+    decide_ok (Err r) e = absurd (values_refused r _ _ (e ∙ decided_is))
 
     pub decide_answered : (v : Verdict) → carried_out (one v.yes ∷ v.kept ∷ v.rounds ∷ []) ≡ decide_answer s q mode room
         → v ≡ record { yes = eqb start 0; kept = kept_count (mode_of mode) D S; rounds = rounds (mode_of mode) D S }
@@ -69,15 +71,16 @@ module _ (s : List ℕ) (q : Question) (a : pair_checks s q ≡ Passed) where
         λ i. record { yes = p i; kept = k i; rounds = n i }
 
     module _ (more : ℕ) (wide : 8192 ≤ more) where
-      passes : run_checks s q mode room more ≡ Passed
+      passes : run_checks s q mode room more ≡ Ok tt
       passes = no_fault s q mode (known_mode s q mode a known) room long more (let few = few_pairs in omega arith)
 
       run_is : run_answer s q mode room more ≡ carried_out (start ∷ [])
       unfolding run_answer answer
       run_is = rw passes refl
 
-      pub run_refused : (r : Refusal) → turned_back r ≡ run_answer s q mode room more → ⊥
-      run_refused r e = values_refused r _ _ (e ∙ run_is)
+      pub run_ok : (n : Result ℕ Refusal) → counted n ≡ run_answer s q mode room more → IsOk n
+      run_ok (Ok v) e = refl
+      run_ok (Err r) e = absurd (values_refused r _ _ (e ∙ run_is))
 
       pub run_counted : (count : ℕ) → carried_out (count ∷ []) ≡ run_answer s q mode room more → count ≡ start
       run_counted count e = ap (λ (x : Answer). get_or x.values 0 0) (e ∙ run_is)

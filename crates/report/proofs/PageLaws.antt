@@ -2,6 +2,7 @@
 use Prim.Native.Nat.{ℕ, ◌+◌, ◌*◌}
 use mathlib.Core.Path.{◌≡◌}
 use mathlib.Core.List.{List}
+use Rattle.std.proofs.Common.{Ok}
 use lib.ListN.{length, take, length-append}
 use Rattle.rules.specs.declared.Mode.{Mode}
 use Rattle.rules.specs.declared.Mode.TheVariants.{Full, Partial}
@@ -9,7 +10,6 @@ use Rattle.rules.specs.Slices.{write_at}
 use Rattle.text.proofs.TextLaws.{put_both}
 use Rattle.report.specs.declared.pages.Found.{Found}
 use Rattle.report.specs.declared.pages.Outcome.{Outcome}
-use Rattle.report.specs.declared.pages.Page.TheVariants.{Answered}
 use Rattle.lines.specs.Lines.{file_line, verdict_line, step_lines}
 use Rattle.report.specs.Report.{asked_line}
 use Rattle.report.specs.Pages.{found_text, page_text}
@@ -37,6 +37,6 @@ module _ (mode : Mode) (found : Found) (steps : List ℕ) where
 -- ---- the answers
 
 module _ (a : Outcome) (full partial : List ℕ) where
-  pub length-page : length (page_text (Answered a) full partial)
+  pub length-page : length (page_text (Ok a) full partial)
       ≡ length (file_line a.bytes a.tables) + length (asked_line a.question) + length (found_text Full a.full full) + length (found_text Partial a.partial partial)
   length-page = four (file_line a.bytes a.tables) (asked_line a.question) (found_text Full a.full full) (found_text Partial a.partial partial)

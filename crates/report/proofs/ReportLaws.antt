@@ -19,16 +19,15 @@ use Rattle.rules.proofs.SliceLaws.{write_at-overwrite}
 use Rattle.rules.proofs.MarkLaws.{mark_within}
 use Rattle.rules.proofs.StepLaws.{length-slots, length-steps}
 use Rattle.tables.specs.declared.Refusal.{Refusal}
-use Rattle.tables.specs.declared.Checked.{Checked}
-use Rattle.tables.specs.declared.Checked.TheVariants.{Passed, Fault}
-use Rattle.tables.specs.Checks.{refuse, fault}
-use Rattle.tables.specs.Answers.{Answer, answer, turned_back, carried_out, slice_after}
+use Rattle.tables.specs.Checks.{Checked, refuse, fault}
+use Rattle.tables.specs.Answers.{number_of, counted, Answer, answer, turned_back, carried_out, slice_after}
 use Rattle.tables.specs.File.{tables_of}
 use Rattle.tables.proofs.CheckLaws.{turned_back_lem}
+use Rattle.tables.specs.declared.Reason.TheVariants.{NoRoom}
+use Rattle.std.proofs.Common.{Result, IsOk, Ok, Err}
 use Rattle.questions.specs.declared.Question.{Question}
 use Rattle.questions.specs.Pairs.{demand_of, supply_of}
 use Rattle.questions.specs.Modes.{mode_of}
-use Rattle.questions.specs.declared.programs.Asked.TheVariants as asked
 use Rattle.questions.specs.Questions.{question_of, program_checks, asked_of}
 use Rattle.questions.proofs.QuestionLaws.{question_asked, asked_refused, asked_question, asked_passes}
 use Rattle.text.proofs.TextLaws.{length-decimal}
@@ -36,8 +35,6 @@ use Rattle.lines.specs.Lines.{file_line, mode_word, verdict_word, verdict_line, 
 use Rattle.report.specs.Report.{refusal_line, asked_line, mode_text, decision_text, text_after, text, room_fault, report_answer, report_bytes}
 use Rattle.report.specs.declared.pages.Found.{Found}
 use Rattle.report.specs.declared.pages.Outcome.{Outcome}
-use Rattle.report.specs.declared.pages.Page.{Page}
-use Rattle.report.specs.declared.pages.Page.TheVariants as page
 use Rattle.report.specs.Pages.{found_text, found_of, page_text, Whole}
 use Rattle.lines.proofs.LineLaws.{length-refused, length-file, length-start, length-verdict, length-step, length-row, four}
 use Rattle.lines.proofs.StepsLaws.{slots_lines}
@@ -45,14 +42,14 @@ use Rattle.report.proofs.DecisionLaws.{few_pairs}
 
 -- ---- by what is asked
 
-pub text_refused : (s : List ℕ) (r : Refusal) → asked_of s ≡ asked.Refused r → text s ≡ refusal_line r
+pub text_refused : (s : List ℕ) (r : Refusal) → asked_of s ≡ Err r → text s ≡ refusal_line r
 unfolding text
 text_refused s r e = rw (asked_refused s r e) refl
 
 -- ---- how long the text can be
 
 refused_fits : (r : Refusal) → length (refusal_line r) ≤ 53
-refused_fits r = omega (arith, length-refused r.number r.place, length-decimal r.number, length-decimal r.place)
+refused_fits r = omega (arith, length-refused (number_of r.reason) r.place, length-decimal (number_of r.reason), length-decimal r.place)
 
 word_fits : (mode : Mode) (b : Bool) → length (mode_word mode) + length (verdict_word b) ≤ 11
 unfolding verdict_word
@@ -93,8 +90,8 @@ mode_fits mode D S t w h =
     )
 
 text_after_fits : (s : List ℕ) (c : Checked) → program_checks s ≡ c → length (text_after c s) ≤ 385321
-text_after_fits s (Fault r) e = let few = refused_fits r in omega arith
-text_after_fits s Passed e =
+text_after_fits s (Err r) e = let few = refused_fits r in omega arith
+text_after_fits s (Ok u) e =
     let q : Question = question_of s in
     let few = few_pairs s q (question_asked s e) in
     let every = mode_fits Full (demand_of s q) (supply_of s q) q.demand.state q.supply.state few in
@@ -137,14 +134,14 @@ module _ (mode : Mode) (D S : Machine) (t w : ℕ) (entry : List ℕ) where
       ap (λ (l : List ℕ). verdict_line mode (eqb (mark mode D S t w) 0) (rounds mode D S) (kept_count mode D S) ++ l) (ap step_lines first_steps ∙ lines_are)
 
 module _ (s full partial : List ℕ) where
-  page_short : (x : Page) → page_text x full partial ≡ text s → length (page_text x full partial) < 2 ^ 64
+  page_short : (x : Result Outcome Refusal) → page_text x full partial ≡ text s → length (page_text x full partial) < 2 ^ 64
   page_short x e = let few : length (page_text x full partial) ≤ 385321 = rw e (text_fits s) in omega arith
 
-  pub refused_page : (r : Refusal) → text s ≡ refusal_line r → (page_text (page.Refused r) full partial ≡ text s) × Whole (page.Refused r) full partial
-  refused_page r e = (sym e, record { steps_in = tt; short = page_short (page.Refused r) (sym e) })
+  pub refused_page : (r : Refusal) → text s ≡ refusal_line r → (page_text (Err r) full partial ≡ text s) × Whole (Err r) full partial
+  refused_page r e = (sym e, record { steps_in = tt; short = page_short (Err r) (sym e) })
 
   -- where a question is asked, the answers to it
-  module _ (q : Question) (asks : asked_of s ≡ asked.Question q) (k : ℕ) (count : tables_of s ≡ k) where
+  module _ (q : Question) (asks : asked_of s ≡ Ok q) (k : ℕ) (count : tables_of s ≡ k) where
     abbrev found : ℕ → Found
     found mode = found_of (mode_of mode) (demand_of s q) (supply_of s q) q.demand.state q.supply.state
 
@@ -170,7 +167,7 @@ module _ (s full partial : List ℕ) where
       abbrev outcome : Outcome
       outcome = record { bytes = length s; tables = k; question = q; full = every; partial = some }
 
-      page_is : page_text (page.Answered outcome) full partial ≡ text s
+      page_is : page_text (Ok outcome) full partial ≡ text s
       unfolding mode_of
       page_is =
           (λ i. file_line (length s) k ++ asked_line q ++ found_text Full (full-found i) (full-run i) ++ found_text Partial (partial-found i) (partial-run i))
@@ -180,17 +177,17 @@ module _ (s full partial : List ℕ) where
           ∙ sym text_outcome
 
       pub answered_page : 8192 ≤ length full → 8192 ≤ length partial
-          → (page_text (page.Answered outcome) full partial ≡ text s) × Whole (page.Answered outcome) full partial
+          → (page_text (Ok outcome) full partial ≡ text s) × Whole (Ok outcome) full partial
       answered_page h l =
-          (page_is, record { steps_in = (steps_in 0 every full full-found h, steps_in 1 some partial partial-found l); short = page_short (page.Answered outcome) page_is })
+          (page_is, record { steps_in = (steps_in 0 every full full-found h, steps_in 1 some partial partial-found l); short = page_short (Ok outcome) page_is })
 
 -- ---- the call
 
 module _ (s entry : List ℕ) where
   pub room_short : length entry < length (text s)
-      → (turned_back (refuse 14 0) ≡ report_answer s (length entry)) × (entry ≡ report_bytes s entry)
+      → (turned_back (refuse NoRoom 0) ≡ report_answer s (length entry)) × (entry ≡ report_bytes s entry)
   unfolding report_answer report_bytes room_fault fault
-  room_short h = turned_back_lem _ _ _ _ _ (rw (lt-ltb _ _ h) refl)
+  room_short h = turned_back_lem _ (refuse NoRoom 0) _ _ _ (rw (lt-ltb _ _ h) refl)
 
   pub text_written : (count : ℕ) (exit : List ℕ) → length (text s) ≤ length entry → count ≡ length (text s) → exit ≡ write_at 0 (text s) entry
       → (carried_out (count ∷ []) ≡ report_answer s (length entry)) × (exit ≡ report_bytes s entry)
@@ -203,7 +200,7 @@ pub count_within : (s : List ℕ) (room count : ℕ) → carried_out (count ∷ 
 unfolding report_answer room_fault fault answer
 count_within s room count e = go (ltb room (length (text s))) refl e
   where
-    go : (b : Bool) → ltb room (length (text s)) ≡ b → carried_out (count ∷ []) ≡ answer (fault b 14 0) (length (text s) ∷ []) → count ≤ room
+    go : (b : Bool) → ltb room (length (text s)) ≡ b → carried_out (count ∷ []) ≡ answer (fault b NoRoom 0) (length (text s) ∷ []) → count ≤ room
     go true f a = let none : length (count ∷ []) ≡ 0 = ap (λ (x : Answer). length x.values) a in absurd (omega arith)
     go false f a = let same : count ≡ length (text s) = ap (λ (x : Answer). get_or x.values 0 0) a in let most : length (text s) ≤ room = ltb-false room (length (text s)) f in omega arith
 
@@ -216,8 +213,9 @@ module _ (s : List ℕ) (room : ℕ) (h : 385321 ≤ room) where
   unfolding report_answer room_fault fault answer
   always_written = rw enough refl
 
-  pub never_refused : (r : Refusal) → turned_back r ≡ report_answer s room → ⊥
-  never_refused r e = let none : 0 ≡ length (length (text s) ∷ []) = ap (λ (x : Answer). length x.values) (e ∙ always_written) in omega arith
+  pub never_refused : (r : Result ℕ Refusal) → counted r ≡ report_answer s room → IsOk r
+  never_refused (Ok n) e = refl
+  never_refused (Err r) e = let none : 0 ≡ length (length (text s) ∷ []) = ap (λ (x : Answer). length x.values) (e ∙ always_written) in absurd (omega arith)
 
   pub whole_count : (count : ℕ) → carried_out (count ∷ []) ≡ report_answer s room → count ≡ length (text s)
   whole_count count e = ap (λ (x : Answer). get_or x.values 0 0) (e ∙ always_written)

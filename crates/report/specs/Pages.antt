@@ -1,5 +1,5 @@
 -- A page: the text for a file, composed and not yet written. It is the refusal, or the outcome, with the steps of both modes in slices beside them.
-use Rattle.std.specs.Prelude.{ℕ, ◌*◌, ◌^◌, ◌≤◌, ◌<◌, List, ◌++◌, eqb, length, take}
+use Rattle.std.specs.Prelude.{ℕ, ◌*◌, ◌^◌, ◌≤◌, ◌<◌, List, ◌++◌, eqb, length, take, Result, Ok, Err}
 use Rattle.rules.specs.declared.Mode.{Mode}
 use Rattle.rules.specs.declared.Mode.TheVariants.{Full, Partial}
 use Rattle.rules.specs.Machines.{Machine}
@@ -7,9 +7,9 @@ use Rattle.rules.specs.Rounds.{mark, kept_count, rounds}
 use Rattle.rules.specs.Steps.{steps}
 use Rattle.questions.specs.declared.Question.{Question}
 use Rattle.questions.specs.Pairs.{demand_of, supply_of}
+use Rattle.tables.specs.declared.Refusal.{Refusal}
 use Rattle.report.specs.declared.pages.Found.{Found}
-use Rattle.report.specs.declared.pages.Page.{Page}
-use Rattle.report.specs.declared.pages.Page.TheVariants.{Refused, Answered}
+use Rattle.report.specs.declared.pages.Outcome.{Outcome}
 use Rattle.lines.specs.Lines.{file_line, verdict_line, step_lines}
 use Rattle.report.specs.Report.{refusal_line, asked_line}
 
@@ -19,18 +19,18 @@ found_text mode found steps =
     verdict_line mode found.verdict.yes found.verdict.rounds found.verdict.kept ++ step_lines (take (2 * found.steps) steps)
 
 -- the text of a page
-abbrev pub page_text : Page → List ℕ → List ℕ → List ℕ
-page_text (Refused r) full partial = refusal_line r
-page_text (Answered a) full partial =
+abbrev pub page_text : Result Outcome Refusal → List ℕ → List ℕ → List ℕ
+page_text (Err r) full partial = refusal_line r
+page_text (Ok a) full partial =
     file_line a.bytes a.tables ++ asked_line a.question ++ found_text Full a.full full ++ found_text Partial a.partial partial
 
 -- the steps lie in their slices
-abbrev pub StepsIn : Page → List ℕ → List ℕ → Type 0
-StepsIn (Refused r) full partial = Unit
-StepsIn (Answered a) full partial = (2 * a.full.steps ≤ length full) × (2 * a.partial.steps ≤ length partial)
+abbrev pub StepsIn : Result Outcome Refusal → List ℕ → List ℕ → Type 0
+StepsIn (Err r) full partial = Unit
+StepsIn (Ok a) full partial = (2 * a.full.steps ≤ length full) × (2 * a.partial.steps ≤ length partial)
 
 -- and the text's length is a number of 64 bits
-pub record Whole (page : Page) (full partial : List ℕ) : Type 0 where
+pub record Whole (page : Result Outcome Refusal) (full partial : List ℕ) : Type 0 where
   pub steps_in : StepsIn page full partial
   pub short : length (page_text page full partial) < 2 ^ 64
 

@@ -1,5 +1,5 @@
 -- The text that the program prints for a file. Document 01, 'The program'.
-use Rattle.std.specs.Prelude.{ℕ, ltb, eqb, length}
+use Rattle.std.specs.Prelude.{ℕ, ltb, eqb, length, Ok, Err}
 use mathlib.Core.List.{List, [], ◌∷◌, ◌++◌, flat_map}
 use Rattle.rules.specs.declared.Mode.{Mode}
 use Rattle.rules.specs.declared.Mode.TheVariants.{Full, Partial}
@@ -8,11 +8,11 @@ use Rattle.rules.specs.Machines.{Machine}
 use Rattle.rules.specs.Rounds.{mark, kept_count, rounds}
 use Rattle.rules.specs.Steps.{slots}
 use Rattle.tables.specs.declared.Refusal.{Refusal}
-use Rattle.tables.specs.declared.Checked.{Checked}
-use Rattle.tables.specs.declared.Checked.TheVariants.{Passed, Fault}
-use Rattle.tables.specs.Checks.{fault}
+use Rattle.tables.specs.Answers.{number_of}
+use Rattle.tables.specs.Checks.{Checked, fault}
 use Rattle.tables.specs.Answers.{Answer, answer, slice_after}
 use Rattle.tables.specs.File.{tables_of}
+use Rattle.tables.specs.declared.Reason.TheVariants.{NoRoom}
 use Rattle.questions.specs.declared.Question.{Question}
 use Rattle.questions.specs.Pairs.{demand_of, supply_of}
 use Rattle.questions.specs.Questions.{question_of, program_checks}
@@ -20,7 +20,7 @@ use Rattle.lines.specs.Lines.{refused_line, file_line, start_line, verdict_line,
 
 -- "the line `refused N at P`", of a refusal
 abbrev pub refusal_line : Refusal → List ℕ
-refusal_line r = refused_line r.number r.place
+refusal_line r = refused_line (number_of r.reason) r.place
 
 -- "table numbers; states", of a question
 abbrev pub asked_line : Question → List ℕ
@@ -38,8 +38,8 @@ decision_text mode s q = mode_text mode (demand_of s q) (supply_of s q) q.demand
 
 -- "A refusal prints only the line"; else the lines of both modes, full first
 abbrev pub text_after : Checked → List ℕ → List ℕ
-text_after (Fault r) s = refusal_line r
-text_after Passed s =
+text_after (Err r) s = refusal_line r
+text_after (Ok u) s =
     file_line (length s) (tables_of s) ++ asked_line (question_of s) ++ decision_text Full s (question_of s) ++ decision_text Partial s (question_of s)
 
 -- the whole text, by what the checks find
@@ -49,7 +49,7 @@ text s = text_after (program_checks s) s
 -- The text is printed, so document 01 lends no bytes for it, and a file that is turned back has a text like any other. One number can turn the call
 -- itself back, and it is ours: 14 where the lent bytes are fewer than the text; room is how many are lent.
 unfoldable pub room_fault : List ℕ → ℕ → Checked
-room_fault s room = fault (ltb room (length (text s))) 14 0
+room_fault s room = fault (ltb room (length (text s))) NoRoom 0
 
 -- its length is returned
 unfoldable pub report_answer : List ℕ → ℕ → Answer

@@ -4,12 +4,11 @@
 #![tactic(auto)]
 
 ghost use Rattle.std.specs.Prelude.{◌≡◌, length};
-ghost use Rattle.checker.specs.Calls.{counted};
+ghost use Rattle.tables.specs.Answers.{counted};
 ghost use Rattle.report.specs.Report.{report_answer, report_bytes};
 
-use checker::Counted;
 use pages::{STEP_ENTRIES, compose, put_page};
-use tables::Refusal;
+use tables::{Reason, Refusal};
 
 mod pages;
 
@@ -18,7 +17,7 @@ mod pages;
 pub const LONGEST: usize = 385321;
 
 // Writes the text for a file, and returns its length.
-pub fn write(file: &[u8], out: &mut [u8]) -> Counted
+pub fn write(file: &[u8], out: &mut [u8]) -> Result<usize, Refusal>
     ensures answer { counted result ≡ report_answer file.now (length out.old) }
     ensures bytes { out.new ≡ report_bytes file.now out.old }
 {
@@ -28,7 +27,7 @@ pub fn write(file: &[u8], out: &mut [u8]) -> Counted
     let mut spare = [0u8; 1];
     let count = put_page(&mut spare, page, &full, &partial);
     if out.len() < count {
-        return Counted::Refused(Refusal::new(14, 0));
+        return Err(Refusal::new(Reason::NoRoom, 0));
     }
-    Counted::Count(put_page(out, page, &full, &partial))
+    Ok(put_page(out, page, &full, &partial))
 }

@@ -1,16 +1,14 @@
 // A page: the text for a file, composed and not yet written, with the steps of both modes beside it. So its length is known before a byte is written.
-ghost use Rattle.std.specs.Prelude.{◌+◌, ◌*◌, ◌^◌, ◌≤◌, ◌<◌, ◌≡◌, length};
+ghost use Rattle.std.specs.Prelude.{◌+◌, ◌*◌, ◌^◌, ◌≤◌, ◌<◌, ◌≡◌, length, Ok};
 ghost use Rattle.rules.specs.Slices.{write_at, overwrite};
-ghost use Rattle.tables.specs.declared.Checked.TheVariants.{Passed};
 ghost use Rattle.questions.specs.Pairs.{pair_checks};
 ghost use Rattle.questions.specs.Modes.{mode_of};
-ghost use Rattle.report.specs.declared.pages.Page.TheVariants.{Answered};
 ghost use Rattle.report.specs.Report.{text};
 ghost use Rattle.report.specs.Pages.{found_at, steps_at, found_text, page_text, Whole};
 
-use checker::{Counted, Decided, Question, Verdict};
+use checker::{Question, Verdict};
 use lines::{put_file, put_refused, put_start, put_steps, put_verdict};
-use questions::{Asked, ask};
+use questions::ask;
 use rules::{Limits, Mode};
 use tables::{Refusal, table_count};
 
@@ -26,18 +24,6 @@ pub(crate) struct Found {
     pub steps: usize,
 }
 
-impl Found {
-    // Stands where a call is turned back, which none is.
-    fn nothing() -> Self {
-        let verdict = Verdict {
-            yes: false,
-            kept: 0,
-            rounds: 0,
-        };
-        Found { verdict, steps: 0 }
-    }
-}
-
 // What the text tells of a file that has both kinds of table.
 #[derive(Clone, Copy)]
 pub(crate) struct Outcome {
@@ -48,53 +34,38 @@ pub(crate) struct Outcome {
     pub partial: Found,
 }
 
-#[derive(Clone, Copy)]
-pub(crate) enum Page {
-    Refused(Refusal),
-    Answered(Outcome),
-}
-
-// What a mode finds, and in `steps` the run that shows a no. Nothing turns back a call here, so the answer for that case is never given.
+// What a mode finds, and in `steps` the run that shows a no. Nothing turns back a call here.
 fn find(file: &[u8], question: Question, mode: usize, steps: &mut [u16]) -> Found
-    requires { (pair_checks file.now question ≡ Passed) × (mode ≤ 1) × (8192 ≤ length steps.old) }
+    requires { (pair_checks file.now question ≡ Ok tt) × (mode ≤ 1) × (8192 ≤ length steps.old) }
     ensures found { result ≡ found_at (mode_of mode) file.now question }
     ensures steps { steps.new ≡ overwrite (steps_at (mode_of mode) file.now question) steps.old }
 {
     let mut marks = [0u16; PAIRS];
-    let decided = checker::decide(file, question, mode, &mut marks);
-    let Decided::Answered(verdict) = decided else {
-        return Found::nothing();
-    };
-    let counted = checker::run(file, question, mode, &mut marks, steps);
-    let Counted::Count(count) = counted else {
-        return Found::nothing();
-    };
-    Found {
-        verdict,
-        steps: count,
-    }
+    let verdict = checker::decide(file, question, mode, &mut marks).unwrap();
+    let steps = checker::run(file, question, mode, &mut marks, steps).unwrap();
+    Found { verdict, steps }
 }
 
 // Composes the text for a file. The steps of each mode go to the slice lent for it.
-pub(crate) fn compose(file: &[u8], full: &mut [u16], partial: &mut [u16]) -> Page
+pub(crate) fn compose(
+    file: &[u8],
+    full: &mut [u16],
+    partial: &mut [u16],
+) -> Result<Outcome, Refusal>
     requires { (8192 ≤ length full.old) × (8192 ≤ length partial.old) }
     ensures text { page_text result full.new partial.new ≡ text file.now }
     ensures whole { Whole result full.new partial.new }
 {
-    match ask(file) {
-        Asked::Refused(refusal) => Page::Refused(refusal),
-        Asked::Question(question) => {
-            let every = find(file, question, 0, full);
-            let some = find(file, question, 1, partial);
-            Page::Answered(Outcome {
-                bytes: file.len(),
-                tables: table_count(file),
-                question,
-                full: every,
-                partial: some,
-            })
-        }
-    }
+    let question = ask(file)?;
+    let every = find(file, question, 0, full);
+    let some = find(file, question, 1, partial);
+    Ok(Outcome {
+        bytes: file.len(),
+        tables: table_count(file),
+        question,
+        full: every,
+        partial: some,
+    })
 }
 
 // Writes what a mode found, with its steps.
@@ -110,9 +81,9 @@ fn put_found(out: &mut [u8], at: usize, mode: Mode, found: Found, steps: &[u16])
 }
 
 fn put_outcome(out: &mut [u8], outcome: Outcome, full: &[u16], partial: &[u16]) -> usize
-    requires { Whole (Answered outcome) full.now partial.now }
-    ensures place { result ≡ length (page_text (Answered outcome) full.now partial.now) }
-    ensures bytes { out.new ≡ write_at 0 (page_text (Answered outcome) full.now partial.now) out.old }
+    requires { Whole (Ok outcome) full.now partial.now }
+    ensures place { result ≡ length (page_text (Ok outcome) full.now partial.now) }
+    ensures bytes { out.new ≡ write_at 0 (page_text (Ok outcome) full.now partial.now) out.old }
 {
     let at = put_file(out, 0, outcome.bytes, outcome.tables);
     let asked = outcome.question;
@@ -129,13 +100,18 @@ fn put_outcome(out: &mut [u8], outcome: Outcome, full: &[u16], partial: &[u16]) 
 }
 
 // Writes a text that is composed, as far as the buffer reaches, and returns its length.
-pub(crate) fn put_page(out: &mut [u8], page: Page, full: &[u16], partial: &[u16]) -> usize
+pub(crate) fn put_page(
+    out: &mut [u8],
+    page: Result<Outcome, Refusal>,
+    full: &[u16],
+    partial: &[u16],
+) -> usize
     requires { Whole page full.now partial.now }
     ensures place { result ≡ length (page_text page full.now partial.now) }
     ensures bytes { out.new ≡ write_at 0 (page_text page full.now partial.now) out.old }
 {
     match page {
-        Page::Refused(refusal) => put_refused(out, 0, refusal.number as usize, refusal.place),
-        Page::Answered(outcome) => put_outcome(out, outcome, full, partial),
+        Ok(outcome) => put_outcome(out, outcome, full, partial),
+        Err(refusal) => put_refused(out, 0, refusal.reason.number() as usize, refusal.place),
     }
 }

@@ -4,22 +4,30 @@ use mathlib.Core.Path.{◌≡◌, refl, sym, ◌∙◌}
 use mathlib.Core.Bool.{Bool, true, false, ◌||◌, ◌&&◌}
 use mathlib.Core.Logic.{◌⊎◌, inl, inr}
 use lib.Dec.{T, ltb, ltb→lt, lt→ltb, eqb, eqb→eq}
-use borrow.Author.Tests.{le-ltb, ltb-false, eq-eqb, ne_eqb}
+use borrow.Author.Tests.{le-ltb, ltb-false, eq-eqb}
 use native.Mathlib.Omega.{arith}
+use Rattle.std.proofs.Common.{Some, cond, Less, Equal, Greater}
+use Rattle.std.specs.Ordering.{is_lt, is_some_and, partial_ordering_then}
 use Rattle.rules.specs.declared.Row.{Row}
 use Rattle.rules.specs.Rows.{before, rises}
 use Rattle.rules.proofs.Booleans.{T_true, true-T, eq-T, and_i, and_l, and_r, or_l, or_r, or_cases, or_false_l}
 
--- numbers that differ decide
-pub before_differ : (a b : ℕ) (rest : Bool) → (a ≡ b → ⊥) → ltb a b ≡ before a b rest
-before_differ a b rest n = rw (ne_eqb a b n) (go (ltb a b))
-  where
-    go : (t : Bool) → t ≡ (t || false)
-    go true = refl
-    go false = refl
+-- three comparisons one after the other, as a derived order makes them, and as `before` does
+pub by_order : (l e m f n g : Bool)
+    → is_some_and is_lt
+    (partial_ordering_then (Some (cond l Less (cond e Equal Greater)))
+    (partial_ordering_then (Some (cond m Less (cond f Equal Greater))) (Some (cond n Less (cond g Equal Greater)))))
+    ≡ (l || (e && (m || (f && n))))
+by_order true e m f n g = refl
+by_order false false m f n g = refl
+by_order false true true f n g = refl
+by_order false true false false n g = refl
+by_order false true false true true g = refl
+by_order false true false true false true = refl
+by_order false true false true false false = refl
 
 -- equal numbers leave it to the rest
-pub before_equal : (a b : ℕ) (rest : Bool) → a ≡ b → rest ≡ before a b rest
+before_equal : (a b : ℕ) (rest : Bool) → a ≡ b → rest ≡ before a b rest
 before_equal a b rest e = rw (eq-eqb a b e, le-ltb a b (omega arith))
 
 -- the two ways to come before

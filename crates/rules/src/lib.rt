@@ -31,11 +31,11 @@ pub enum Mode {
 }
 
 // A row of a table: in state `from`, the set is requested or granted, and the table goes to state `target`.
-#[derive(Clone, Copy)]
+#[derive(Clone, Copy, PartialEq, Eq, PartialOrd, Ord)]
 pub struct Row {
     pub from: u8,
-    pub target: u8,
     pub set: u16,
+    pub target: u8,
 }
 
 impl Row {
@@ -58,13 +58,7 @@ impl Row {
     pub fn rises_to(self, next: Row) -> bool
         ensures { result ≡ rises self next }
     {
-        if self.from != next.from {
-            return self.from < next.from;
-        }
-        if self.set != next.set {
-            return self.set < next.set;
-        }
-        self.target < next.target
+        self < next
     }
 }
 

@@ -1,12 +1,11 @@
 // The program: reads standard input as a file of tables, and writes the text that `report` makes of it. Relies on `report` for the text, on
-// `checker` for its answer, on `rules` for the limit, and on `io`. What it prints is held to the file `stdout` beside this folder, for the file `stdin`.
+// `rules` for the limit, and on `io`. What it prints is held to the file `stdout` beside this folder, for the file `stdin`.
 #![tactic(auto)]
 
 ghost use Rattle.std.specs.Prelude.{◌≤◌, ◌≡◌, length};
 ghost use Rattle.rules.specs.Slices.{overwrite};
 ghost use Rattle.report.specs.Report.{text};
 
-use checker::Counted;
 use rules::Limits;
 
 // Makes the text in a buffer with room for the longest one, so that no call is turned back, and has all of it written out. Returns its length.
@@ -15,10 +14,7 @@ fn print(file: &[u8], out: &mut [u8]) -> usize
     ensures count { result ≡ length (text file.now) }
     ensures bytes { out.new ≡ overwrite (text file.now) out.old }
 {
-    let written = report::write(file, out);
-    let Counted::Count(count) = written else {
-        return 0;
-    };
+    let count = report::write(file, out).unwrap();
     io::write_all(1, &out[..count]);
     count
 }

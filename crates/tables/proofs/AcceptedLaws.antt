@@ -8,21 +8,21 @@ use native.Mathlib.Nat.{le_of_suc-le-suc, eq-or-lt_of_le}
 use native.Mathlib.Omega.{arith}
 use lib.ListN.{length}
 use lib.Dec.{ltb, leb, eqb, eqb-suc-zero}
-use borrow.Author.Tests.{ltb-false, leb-false, eqb-true, eqb-false, le-ltb, lt-leb, eq-eqb, ne_eqb, not-false}
+use borrow.Author.Tests.{lt-ltb, ltb-false, leb-false, eqb-true, eqb-false, le-ltb, lt-leb, eq-eqb, ne_eqb, not-false}
 use Rattle.rules.specs.Rows.{rises}
 use Rattle.rules.proofs.Booleans.{or_false_l, or_false_r}
 use Rattle.rules.proofs.RowLaws.{rises_trans}
 use Rattle.tables.specs.declared.Refusal.{Refusal}
-use Rattle.tables.specs.declared.Checked.{Checked}
-use Rattle.tables.specs.declared.Checked.TheVariants.{Passed, Fault}
-use Rattle.tables.specs.declared.Opened.TheVariants.{Tables, Refused}
-use Rattle.tables.specs.Checks.{scan}
-use Rattle.tables.specs.Answers.{Answer, answer, refusal_of, opened, carried_out}
+use Rattle.tables.specs.Checks.{Checked, scan}
+use Rattle.tables.specs.Answers.{Answer, answer, counted, carried_out}
 use Rattle.tables.specs.File.{tables_of, entry_place, entry_of, body_length, end_before, body_of, row_of}
 use Rattle.tables.specs.Open.{outside, header_fault, entry_fault, length_fault, is_above, row_fault, body_fault, file_fault, open_of}
 use Rattle.tables.specs.Accepted.{TableBody, Accepted, Laid}
-use Rattle.tables.proofs.CheckLaws.{fault_passed, passed_fault, then_left, then_right, then_both, scan_each, each_scan}
+use Rattle.tables.proofs.CheckLaws.{turned_by, fault_passed, passed_fault, then_left, then_right, then_both, scan_each, each_scan}
 use Rattle.tables.proofs.FileLaws.{end_first, end_next, end_upto, end_most, body_length_lem}
+use Rattle.std.proofs.Common.{Ok, Err}
+use Rattle.std.specs.Result.{is_err}
+use Rattle.tables.specs.Kinds.{kind_of}
 
 no_values : {k : ℕ} → ◌≡◌ {A = List ℕ} (k ∷ []) [] → ⊥
 no_values e = let z : ◌≡◌ {A = ℕ} 0 1 = cc in omega arith
@@ -37,6 +37,20 @@ pub outside_high : (low high x : ℕ) → outside low high x ≡ false → x ≤
 unfolding outside
 outside_high low high x e = ltb-false high x (or_false_r (ltb x low) (ltb high x) e)
 
+-- a byte is no kind's exactly if it is not 1 or 2
+pub unknown_kind : (code : ℕ) → is_err (kind_of code) ≡ outside 1 2 code
+unfolding kind_of outside
+unknown_kind zero = refl
+unknown_kind (suc zero) = refl
+unknown_kind (suc (suc zero)) = refl
+unknown_kind (suc (suc (suc n))) =
+    simp (
+      ne_eqb (suc (suc (suc n))) 1 (λ e. absurd (omega arith)),
+      ne_eqb (suc (suc (suc n))) 2 (λ e. absurd (omega arith)),
+      lt-ltb 2 (suc (suc (suc n))) (omega arith),
+      le-ltb (suc (suc (suc n))) 1 (omega arith),
+    )
+
 not_outside : (low high x : ℕ) → low ≤ x → x ≤ high → outside low high x ≡ false
 unfolding outside
 not_outside low high x l h = simp (le-ltb _ _ l, le-ltb _ _ h)
@@ -49,14 +63,14 @@ module _ (s : List ℕ) where
     pub few : tables_of s ≤ 16
     pub contents : entry_place (tables_of s) ≤ length s
 
-  pub header_passed : header_fault s ≡ Passed → GoodHeader
+  pub header_passed : header_fault s ≡ Ok tt → GoodHeader
   unfolding header_fault
   header_passed e =
       let r = then_right _ _ e in
       let k = fault_passed _ _ _ (then_left _ _ r) in
       record { some = outside_low 1 16 _ k; few = outside_high 1 16 _ k; contents = ltb-false _ _ (fault_passed _ _ _ (then_right _ _ r)) }
 
-  passed_header : GoodHeader → header_fault s ≡ Passed
+  passed_header : GoodHeader → header_fault s ≡ Ok tt
   unfolding header_fault
   passed_header h =
       let two : 2 ≤ length s = omega (arith, h.contents) in
@@ -73,7 +87,7 @@ module _ (s : List ℕ) where
     pub rows_high : (entry_of s i).rows ≤ 512
     pub place : (entry_of s i).offset ≡ end_before s i
 
-  pub entry_passed : (i : ℕ) → entry_fault s i ≡ Passed → GoodEntry i
+  pub entry_passed : (i : ℕ) → entry_fault s i ≡ Ok tt → GoodEntry i
   unfolding entry_fault
   entry_passed i e =
       let e2 = then_right _ _ e in
@@ -89,7 +103,7 @@ module _ (s : List ℕ) where
         place = eqb-true _ _ (not-false _ (fault_passed _ _ _ (then_right _ _ e3)));
       }
 
-  passed_entry : (i : ℕ) → GoodEntry i → entry_fault s i ≡ Passed
+  passed_entry : (i : ℕ) → GoodEntry i → entry_fault s i ≡ Ok tt
   unfolding entry_fault
   passed_entry i l =
       then_both _ _ (passed_fault _ _ _ (not_outside 1 2 _ l.kind_low l.kind_high))
@@ -97,16 +111,16 @@ module _ (s : List ℕ) where
       (then_both _ _ (passed_fault _ _ _ (le-ltb _ _ l.rows_high)) (passed_fault _ _ _ (ap not (eq-eqb _ _ l.place)))))
 
   -- where the bodies end at most, as far as the entries have passed
-  pub end_short : (i : ℕ) → i ≤ 16 → tables_of s ≤ 16 → scan (entry_fault s) i ≡ Passed → end_before s i ≤ 32866
+  pub end_short : (i : ℕ) → i ≤ 16 → tables_of s ≤ 16 → scan (entry_fault s) i ≡ Ok tt → end_before s i ≤ 32866
   end_short i l k e = omega (arith, end_most s i (λ j u. (entry_passed j (scan_each (entry_fault s) i e j u)).rows_high))
 
   -- ---- the length
 
-  pub length-passed : length_fault s ≡ Passed → length s ≡ end_before s (tables_of s)
+  pub length-passed : length_fault s ≡ Ok tt → length s ≡ end_before s (tables_of s)
   unfolding length_fault
   length-passed e = eqb-true _ _ (not-false _ (fault_passed _ _ _ e))
 
-  passed_length : length s ≡ end_before s (tables_of s) → length_fault s ≡ Passed
+  passed_length : length s ≡ end_before s (tables_of s) → length_fault s ≡ Ok tt
   unfolding length_fault
   passed_length e = passed_fault _ _ _ (ap not (eq-eqb _ _ e))
 
@@ -129,7 +143,7 @@ module _ (body : List ℕ) (n start : ℕ) where
   next_above : (j : ℕ) → rises (row_of body j) (row_of body (suc j)) ≡ true → is_above body (suc j) ≡ true
   next_above j e = rw (eqb-suc-zero j, pred_suc j) e
 
-  row_passed : (j : ℕ) → row_fault body n start j ≡ Passed → GoodRow j
+  row_passed : (j : ℕ) → row_fault body n start j ≡ Ok tt → GoodRow j
   unfolding row_fault
   row_passed j e =
       let from = (row_of body j).from in
@@ -143,7 +157,7 @@ module _ (body : List ℕ) (n start : ℕ) where
         above = not-false _ (fault_passed _ _ _ (then_right _ _ e2));
       }
 
-  passed_row : (j : ℕ) → GoodRow j → row_fault body n start j ≡ Passed
+  passed_row : (j : ℕ) → GoodRow j → row_fault body n start j ≡ Ok tt
   unfolding row_fault
   passed_row j r =
       let from = (row_of body j).from in
@@ -153,7 +167,7 @@ module _ (body : List ℕ) (n start : ℕ) where
       (then_both _ _ (passed_fault _ _ _ target) (passed_fault _ _ _ (ap not r.above)))
 
   -- the rows of a body that ends where it should
-  rows_passed : (m : ℕ) → 1 ≤ n → n ≤ 64 → m ≤ 512 → length body ≡ 4 * m → scan (row_fault body n start) m ≡ Passed → TableBody n m body
+  rows_passed : (m : ℕ) → 1 ≤ n → n ≤ 64 → m ≤ 512 → length body ≡ 4 * m → scan (row_fault body n start) m ≡ Ok tt → TableBody n m body
   rows_passed m some few rows long e =
       let row : (j : ℕ) → j < m → GoodRow j = λ j l. row_passed j (scan_each (row_fault body n start) m e j l) in
       record {
@@ -168,7 +182,7 @@ module _ (body : List ℕ) (n start : ℕ) where
       }
 
   -- a body passes wherever it starts
-  pub passed_rows : (m : ℕ) → TableBody n m body → scan (row_fault body n start) m ≡ Passed
+  pub passed_rows : (m : ℕ) → TableBody n m body → scan (row_fault body n start) m ≡ Ok tt
   passed_rows m b =
       each_scan (row_fault body n start) m
       (λ j l. passed_row j
@@ -187,7 +201,7 @@ module _ (s : List ℕ) where
     pub entries : (i : ℕ) → i < tables_of s → GoodEntry s i
     pub long : length s ≡ end_before s (tables_of s)
 
-  parts : header_fault s ≡ Passed → scan (entry_fault s) (tables_of s) ≡ Passed → length_fault s ≡ Passed → Parts
+  parts : header_fault s ≡ Ok tt → scan (entry_fault s) (tables_of s) ≡ Ok tt → length_fault s ≡ Ok tt → Parts
   parts h c l =
       record {
         header = header_passed s h;
@@ -205,10 +219,10 @@ module _ (s : List ℕ) where
   parts_laid p = record { contents = p.header.contents; within = within p; short = short p }
 
   -- with the header, the contents and the length passed, the bodies can be read
-  pub laid : header_fault s ≡ Passed → scan (entry_fault s) (tables_of s) ≡ Passed → length_fault s ≡ Passed → Laid s (tables_of s)
+  pub laid : header_fault s ≡ Ok tt → scan (entry_fault s) (tables_of s) ≡ Ok tt → length_fault s ≡ Ok tt → Laid s (tables_of s)
   laid h c l = parts_laid (parts h c l)
 
-  pub passed_accepted : file_fault s ≡ Passed → Accepted s (tables_of s)
+  pub passed_accepted : file_fault s ≡ Ok tt → Accepted s (tables_of s)
   unfolding file_fault body_fault body_length
   passed_accepted e =
       let e2 = then_right _ _ e in
@@ -254,7 +268,7 @@ module _ (s : List ℕ) where
   pub accepted_laid : (k : ℕ) → Accepted s k → Laid s k
   accepted_laid k a = rw a.count at (parts_laid (accepted_parts k a))
 
-  pub accepted_passed : (k : ℕ) → Accepted s k → file_fault s ≡ Passed
+  pub accepted_passed : (k : ℕ) → Accepted s k → file_fault s ≡ Ok tt
   unfolding file_fault body_fault
   accepted_passed k a =
       let p = accepted_parts k a in
@@ -266,26 +280,26 @@ module _ (s : List ℕ) where
       (λ i l. passed_rows (body_of s i) (entry_of s i).states (entry_of s i).offset (entry_of s i).rows (body i l)))))
 
   -- what an answer of Open tells of the file
-  pub tables_passed : (k : ℕ) → opened (Tables k) ≡ open_of s → (file_fault s ≡ Passed) × (tables_of s ≡ k)
+  pub tables_passed : (k : ℕ) → counted (Ok k) ≡ open_of s → (file_fault s ≡ Ok tt) × (tables_of s ≡ k)
   unfolding open_of answer
   tables_passed k e = go (file_fault s) refl e
     where
-      go : (c : Checked) → file_fault s ≡ c → opened (Tables k) ≡ answer c (tables_of s ∷ []) → (file_fault s ≡ Passed) × (tables_of s ≡ k)
-      go Passed p q = let v : k ∷ [] ≡ tables_of s ∷ [] = ap (λ (a : Answer). a.values) q in (p, cc)
-      go (Fault r) p q = let v : k ∷ [] ≡ [] = ap (λ (a : Answer). a.values) q in absurd (no_values v)
+      go : (c : Checked) → file_fault s ≡ c → counted (Ok k) ≡ answer c (tables_of s ∷ []) → (file_fault s ≡ Ok tt) × (tables_of s ≡ k)
+      go (Ok u) p q = let v : k ∷ [] ≡ tables_of s ∷ [] = ap (λ (a : Answer). a.values) q in (p, cc)
+      go (Err r) p q = let v : k ∷ [] ≡ [] = ap (λ (a : Answer). a.values) q in absurd (no_values v)
 
-  pub refused_fault : (r : Refusal) → opened (Refused r) ≡ open_of s → file_fault s ≡ Fault r
+  pub refused_fault : (r : Refusal) → counted (Err r) ≡ open_of s → file_fault s ≡ Err r
   unfolding open_of answer
   refused_fault r e = go (file_fault s) refl e
     where
-      go : (c : Checked) → file_fault s ≡ c → opened (Refused r) ≡ answer c (tables_of s ∷ []) → file_fault s ≡ Fault r
-      go Passed p q = let v : [] ≡ tables_of s ∷ [] = ap (λ (a : Answer). a.values) q in absurd (no_values (sym v))
-      go (Fault f) p q = p ∙ ap Fault (ap refusal_of (sym q))
+      go : (c : Checked) → file_fault s ≡ c → counted (Err r) ≡ answer c (tables_of s ∷ []) → file_fault s ≡ Err r
+      go (Ok u) p q = let v : [] ≡ tables_of s ∷ [] = ap (λ (a : Answer). a.values) q in absurd (no_values (sym v))
+      go (Err f) p q = p ∙ ap Err (turned_by _ _ (sym q))
 
-  pub opened_accepted : (k : ℕ) → opened (Tables k) ≡ open_of s → Accepted s k
+  pub opened_accepted : (k : ℕ) → counted (Ok k) ≡ open_of s → Accepted s k
   opened_accepted k e = let p = tables_passed k e in rw p.1 at (passed_accepted p.0)
 
-  pub opened_laid : (k : ℕ) → opened (Tables k) ≡ open_of s → Laid s k
+  pub opened_laid : (k : ℕ) → counted (Ok k) ≡ open_of s → Laid s k
   opened_laid k e = accepted_laid k (opened_accepted k e)
 
   pub accepted_opened : (k : ℕ) → Accepted s k → open_of s ≡ carried_out (k ∷ [])

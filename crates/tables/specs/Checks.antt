@@ -1,24 +1,27 @@
 -- Checks made one after the other: the first number that applies is the answer.
-use Rattle.std.specs.Prelude.{ℕ, zero, suc, Bool, true, false}
+use Rattle.std.specs.Prelude.{ℕ, zero, suc, Bool, true, false, Result, Ok, Err}
 use Rattle.tables.specs.declared.Refusal.{Refusal}
-use Rattle.tables.specs.declared.Checked.{Checked}
-use Rattle.tables.specs.declared.Checked.TheVariants.{Passed, Fault}
+use Rattle.tables.specs.declared.Reason.{Reason}
+
+-- what a check finds: nothing that turns a call back, or why it is turned back
+abbrev pub Checked : Type 0
+Checked = Result (Unit {0}) Refusal
+
+abbrev pub refuse : Reason → ℕ → Refusal
+refuse r p = record { reason = r; place = p }
+
+-- a reason at place p applies where the test passes
+unfoldable pub fault : Bool → Reason → ℕ → Checked
+fault true r p = Err (refuse r p)
+fault false r p = Ok tt
 
 infixr 20 ◌then◌
-abbrev pub refuse : ℕ → ℕ → Refusal
-refuse n p = record { number = n; place = p }
-
--- number n at place p applies where the test passes
-unfoldable pub fault : Bool → ℕ → ℕ → Checked
-fault true n p = Fault (refuse n p)
-fault false n p = Passed
-
 -- the first check's fault, or else what the second finds
 unfoldable pub ◌then◌ : Checked → Checked → Checked
-Passed then c = c
-(Fault r) then c = Fault r
+(Ok u) then c = c
+(Err r) then c = Err r
 
 -- the checks f 0, f 1, .., f (n - 1), in this order
 unfoldable pub scan : (ℕ → Checked) → ℕ → Checked
-scan f zero = Passed
+scan f zero = Ok tt
 scan f (suc n) = scan f n then f n

@@ -1,3 +1,4 @@
+pub mod Kinds
 pub mod Checks
 pub mod Answers
 pub mod File

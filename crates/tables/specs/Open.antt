@@ -4,10 +4,10 @@ use Rattle.std.specs.Prelude.{ℕ, ◌+◌, ◌-◌, List, [], ◌∷◌, Bool, 
 use Rattle.rules.specs.Rows.{rises}
 use Rattle.rules.specs.declared.Row.{Row}
 use Rattle.tables.specs.declared.reads.Entry.{Entry}
-use Rattle.tables.specs.declared.Checked.{Checked}
-use Rattle.tables.specs.Checks.{fault, ◌then◌, scan}
+use Rattle.tables.specs.Checks.{Checked, fault, ◌then◌, scan}
 use Rattle.tables.specs.Answers.{Answer, answer}
 use Rattle.tables.specs.File.{tables_of, entry_place, entry_of, end_before, body_of, row_place, row_of}
+use Rattle.tables.specs.declared.Reason.TheVariants.{Short, TableCount, Kind, StateCount, RowCount, Offset, Length, From, Target, Order}
 
 -- x is below low or above high
 unfoldable pub outside : ℕ → ℕ → ℕ → Bool
@@ -16,31 +16,31 @@ outside low high x = ltb x low || ltb high x
 -- "1: under 2 bytes. 2: k is 0 or above 16. 1: under 2 + 6 × k bytes."
 unfoldable pub header_fault : List ℕ → Checked
 header_fault s =
-    fault (ltb (length s) 2) 1 (length s)
-    then fault (outside 1 16 (tables_of s)) 2 0
-    then fault (ltb (length s) (entry_place (tables_of s))) 1 (length s)
+    fault (ltb (length s) 2) Short (length s)
+    then fault (outside 1 16 (tables_of s)) TableCount 0
+    then fault (ltb (length s) (entry_place (tables_of s))) Short (length s)
 
 -- "3 kind not 1 or 2, 4 n is 0 or above 64, 5 m above 512, 6 offset not the end of what precedes": an entry at a place, after an end
 abbrev pub entry_checks : Entry → ℕ → ℕ → Checked
 entry_checks e place end =
-    fault (outside 1 2 e.kind) 3 place
-    then fault (outside 1 64 e.states) 4 (place + 1)
-    then fault (ltb 512 e.rows) 5 (place + 2)
-    then fault (not (eqb e.offset end)) 6 (place + 4)
+    fault (outside 1 2 e.kind) Kind place
+    then fault (outside 1 64 e.states) StateCount (place + 1)
+    then fault (ltb 512 e.rows) RowCount (place + 2)
+    then fault (not (eqb e.offset end)) Offset (place + 4)
 
 unfoldable pub entry_fault : List ℕ → ℕ → Checked
 entry_fault s i = entry_checks (entry_of s i) (entry_place i) (end_before s i)
 
 -- "7: length wrong": "The length is 2 + 6 × k + 4 × the sum of all m"
 unfoldable pub length_fault : List ℕ → Checked
-length_fault s = fault (not (eqb (length s) (end_before s (tables_of s)))) 7 (length s)
+length_fault s = fault (not (eqb (length s) (end_before s (tables_of s)))) Length (length s)
 
 -- "8 from is 0 or not below n, 9 target not below n, 10 not above the row before it": a row at a place
 abbrev pub row_checks : Row → ℕ → Bool → ℕ → Checked
 row_checks r n above place =
-    fault (eqb r.from 0 || leb n r.from) 8 place
-    then fault (leb n r.target) 9 (place + 1)
-    then fault (not above) 10 place
+    fault (eqb r.from 0 || leb n r.from) From place
+    then fault (leb n r.target) Target (place + 1)
+    then fault (not above) Order place
 
 -- row j is the first of its body, or above "the row before it in the same body"
 abbrev pub is_above : List ℕ → ℕ → Bool

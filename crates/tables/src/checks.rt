@@ -1,18 +1,18 @@
 // The checks of Open, in document 01's order: header, contents, length, bodies.
-ghost use Rattle.std.specs.Prelude.{◌≡◌, ℕ, ◌+◌, ◌*◌, ◌≤◌, ◌<◌, length, take, drop};
+ghost use Rattle.std.specs.Prelude.{◌≡◌, ℕ, Err, ◌+◌, ◌*◌, ◌≤◌, ◌<◌, length, take, drop};
 ghost use Rattle.tables.specs.Checks.{refuse, scan, ◌then◌};
 ghost use Rattle.tables.specs.File.{tables_of, body_length, end_before};
 ghost use Rattle.tables.specs.Open.{outside, header_fault, entry_fault, length_fault, row_fault, body_fault, file_fault};
 ghost use Rattle.tables.specs.Accepted.{Laid};
 
 use super::reads::Entry;
-use super::{Checked, Refusal, reads};
+use super::{Kind, Reason, Refusal, reads};
 use rules::{Limits, Row};
 
-fn fault_at(number: u8, place: usize) -> Checked
-    ensures { result ≡ Checked.Fault (refuse number place) }
+fn fault(reason: Reason, place: usize) -> Result<(), Refusal>
+    ensures { result ≡ Err (refuse reason place) }
 {
-    Checked::Fault(Refusal::new(number, place))
+    Err(Refusal::new(reason, place))
 }
 
 fn is_outside(low: usize, high: usize, x: usize) -> bool
@@ -22,118 +22,108 @@ fn is_outside(low: usize, high: usize, x: usize) -> bool
 }
 
 // The count of tables, and room for the contents.
-fn check_header(file: &[u8]) -> Checked
+fn check_header(file: &[u8]) -> Result<(), Refusal>
     ensures { result ≡ header_fault file.now }
 {
     let len = file.len();
     if len < 2 {
-        return fault_at(1, len);
+        return fault(Reason::Short, len);
     }
     let k = reads::table_count(file);
     if is_outside(1, Limits::TABLES, k) {
-        return fault_at(2, 0);
+        return fault(Reason::TableCount, 0);
     }
     if len < 2 + 6 * k {
-        return fault_at(1, len);
+        return fault(Reason::Short, len);
     }
-    Checked::Passed
+    Ok(())
 }
 
 // Contents entry i, whose body has to start at end.
-fn check_entry(file: &[u8], i: usize, end: usize) -> Checked
+fn check_entry(file: &[u8], i: usize, end: usize) -> Result<(), Refusal>
     requires { (i < 16) × (end ≡ end_before file.now i) }
     ensures { result ≡ entry_fault file.now i }
 {
     let at = 2 + 6 * i;
     let entry = reads::entry_at(file, i);
-    if is_outside(
-        Entry::DEMAND as usize,
-        Entry::SUPPLY as usize,
-        entry.kind as usize,
-    ) {
-        return fault_at(3, at);
+    if Kind::try_from(entry.kind).is_err() {
+        return fault(Reason::Kind, at);
     }
     if is_outside(1, Limits::STATES, entry.states as usize) {
-        return fault_at(4, at + 1);
+        return fault(Reason::StateCount, at + 1);
     }
     if Limits::ROWS < entry.rows as usize {
-        return fault_at(5, at + 2);
+        return fault(Reason::RowCount, at + 2);
     }
     if entry.offset as usize != end {
-        return fault_at(6, at + 4);
+        return fault(Reason::Offset, at + 4);
     }
-    Checked::Passed
+    Ok(())
 }
 
 // The file's length, which has to be end.
-fn check_length(file: &[u8], end: usize) -> Checked
+fn check_length(file: &[u8], end: usize) -> Result<(), Refusal>
     requires { end ≡ end_before file.now (tables_of file.now) }
     ensures { result ≡ length_fault file.now }
 {
     let len = file.len();
     if len != end {
-        return fault_at(7, len);
+        return fault(Reason::Length, len);
     }
-    Checked::Passed
+    Ok(())
 }
 
 // The contents of a file of k tables, and its length.
-fn check_contents(file: &[u8], k: usize) -> Checked
+fn check_contents(file: &[u8], k: usize) -> Result<(), Refusal>
     requires { (k ≤ 16) × (k ≡ tables_of file.now) }
     ensures { result ≡ (scan (entry_fault file.now) k then length_fault file.now) }
 {
     let mut end = 2 + 6 * k;
     for i in 0..k {
-        let found = check_entry(file, i, end);
-        if let Checked::Fault(_) = found {
-            return found;
-        }
+        check_entry(file, i, end)?;
         end += reads::entry_at(file, i).body_length();
     }
     check_length(file, end)
 }
 
 // Row j of a body that starts at start, in a table of n states.
-fn check_row(body: &[u8], n: u8, start: usize, j: usize) -> Checked
+fn check_row(body: &[u8], n: u8, start: usize, j: usize) -> Result<(), Refusal>
     requires { start + 4 * j < 32866 }
     ensures { result ≡ row_fault body.now n start j }
 {
     let at = start + 4 * j;
     let row = reads::row_at(body, j);
     if row.from == Row::FIN {
-        return fault_at(8, at);
+        return fault(Reason::From, at);
     }
     if n <= row.from {
-        return fault_at(8, at);
+        return fault(Reason::From, at);
     }
     if n <= row.target {
-        return fault_at(9, at + 1);
+        return fault(Reason::Target, at + 1);
     }
     if 0 < j {
         let before = reads::row_at(body, j - 1);
         if !before.rises_to(row) {
-            return fault_at(10, at);
+            return fault(Reason::Order, at);
         }
     }
-    Checked::Passed
+    Ok(())
 }
 
 // The m rows of a body that starts at start, in a table of n states.
-fn check_rows(body: &[u8], n: u8, start: usize, m: usize) -> Checked
+fn check_rows(body: &[u8], n: u8, start: usize, m: usize) -> Result<(), Refusal>
     requires { start + 4 * m ≤ 32866 }
     ensures { result ≡ scan (row_fault body.now n start) m }
 {
     for j in 0..m {
-        let found = check_row(body, n, start, j);
-        if let Checked::Fault(_) = found {
-            return found;
-        }
+        check_row(body, n, start, j)?;
     }
-    Checked::Passed
+    Ok(())
 }
 
 // The body that an entry tells of.
-fn check_body(file: &[u8], entry: Entry) -> Checked
+fn check_body_rows(file: &[u8], entry: Entry) -> Result<(), Refusal>
     requires { (entry.offset + body_length entry ≤ length file.now) × (length file.now ≤ 32866) }
     ensures { result ≡ scan (row_fault (take (body_length entry) (drop entry.offset file.now)) entry.states entry.offset) entry.rows }
 {
@@ -147,31 +137,22 @@ fn check_body(file: &[u8], entry: Entry) -> Checked
 }
 
 // The bodies of a file of k tables, whose header, contents and length have passed.
-fn check_bodies(file: &[u8], k: usize) -> Checked
+fn check_bodies(file: &[u8], k: usize) -> Result<(), Refusal>
     requires { Laid file.now k }
     ensures { result ≡ scan (body_fault file.now) k }
 {
     for i in 0..k {
-        let found = check_body(file, reads::entry_at(file, i));
-        if let Checked::Fault(_) = found {
-            return found;
-        }
+        check_body_rows(file, reads::entry_at(file, i))?;
     }
-    Checked::Passed
+    Ok(())
 }
 
 // The whole file.
-pub(crate) fn check_file(file: &[u8]) -> Checked
+pub(crate) fn check_file(file: &[u8]) -> Result<(), Refusal>
     ensures { result ≡ file_fault file.now }
 {
-    let header = check_header(file);
-    if let Checked::Fault(_) = header {
-        return header;
-    }
+    check_header(file)?;
     let k = reads::table_count(file);
-    let contents = check_contents(file, k);
-    if let Checked::Fault(_) = contents {
-        return contents;
-    }
+    check_contents(file, k)?;
     check_bodies(file, k)
 }

@@ -4,85 +4,90 @@
 
 ghost use Rattle.std.specs.Prelude.{◌≡◌};
 ghost use Rattle.tables.specs.Checks.{refuse};
-ghost use Rattle.tables.specs.Answers.{refusal_of, opened};
+ghost use Rattle.tables.specs.Answers.{number_of, counted};
 ghost use Rattle.tables.specs.Open.{open_of};
 ghost use Rattle.tables.specs.Part.{PartOf};
-ghost use Rattle.tables.specs.Body.{body_answer, body_span};
+ghost use Rattle.tables.specs.Body.{body_checks, body_span};
 
 mod checks;
+mod kinds;
 mod reads;
 
+pub use kinds::{Kind, UnknownKind};
 pub use reads::{Entry, entry_at, entry_body, row_at, states_of, table_count};
 
-// Why a call is turned back: document 01's number, and the place at fault. 0 and 0 where it is carried out.
-#[derive(Clone, Copy)]
+// Why a call is turned back: the numbers are those of documents 01 and 02.
+#[derive(Clone, Copy, PartialEq, Eq)]
+pub enum Reason {
+    Short = 1,
+    TableCount = 2,
+    Kind = 3,
+    StateCount = 4,
+    RowCount = 5,
+    Offset = 6,
+    Length = 7,
+    From = 8,
+    Target = 9,
+    Order = 10,
+    NoTable = 11,
+    WrongKind = 12,
+    NoState = 13,
+    NoRoom = 14,
+    NoMode = 15,
+    TooManyStates = 16,
+    TooManyRows = 17,
+}
+
+impl Reason {
+    pub fn number(self) -> u8
+        ensures { result ≡ number_of self }
+    {
+        self as u8
+    }
+}
+
+// What a call that is turned back returns: the reason, and the place at fault.
+#[derive(Clone, Copy, PartialEq, Eq)]
 pub struct Refusal {
-    pub number: u8,
+    pub reason: Reason,
     pub place: usize,
 }
 
 impl Refusal {
-    pub fn new(number: u8, place: usize) -> Self
-        ensures { result ≡ refuse number place }
+    pub fn new(reason: Reason, place: usize) -> Self
+        ensures { result ≡ refuse reason place }
     {
-        Refusal { number, place }
+        Refusal { reason, place }
     }
 }
 
-// What a check finds.
-#[derive(Clone, Copy)]
-pub enum Checked {
-    Passed,
-    Fault(Refusal),
-}
-
-// What opening a file finds: the count of its tables, or why it is turned back.
-#[derive(Clone, Copy)]
-pub enum Opened {
-    Tables(usize),
-    Refused(Refusal),
-}
-
-// Opens a file.
-pub fn open(file: &[u8]) -> Opened
-    ensures { opened result ≡ open_of file.now }
+// Opens a file, and returns the count of its tables.
+pub fn open(file: &[u8]) -> Result<usize, Refusal>
+    ensures { counted result ≡ open_of file.now }
 {
-    match checks::check_file(file) {
-        Checked::Fault(refusal) => Opened::Refused(refusal),
-        Checked::Passed => Opened::Tables(table_count(file)),
-    }
+    checks::check_file(file)?;
+    Ok(table_count(file))
 }
 
-// The number and place that opening found, or 0 and 0.
-pub fn refusal_of(found: Opened) -> Refusal
-    ensures { result ≡ refusal_of (opened found) }
-{
-    match found {
-        Opened::Refused(refusal) => refusal,
-        Opened::Tables(_) => Refusal::new(0, 0),
-    }
-}
-
-// The number and place of a call of `body` on the same inputs, or 0 and 0.
-pub fn body_refusal(file: &[u8], table: usize) -> Refusal
-    ensures { result ≡ refusal_of (body_answer file.now table) }
+// Why a call of `body` on the same inputs is turned back.
+pub fn check_body(file: &[u8], table: usize) -> Result<(), Refusal>
+    ensures { result ≡ body_checks file.now table }
 {
     let found = open(file);
-    let Opened::Tables(k) = found else {
-        return refusal_of(found);
+    let Ok(k) = found else {
+        return Err(found.unwrap_err());
     };
     if k <= table {
-        return Refusal::new(11, 0);
+        return Err(Refusal::new(Reason::NoTable, 0));
     }
-    Refusal::new(0, 0)
+    Ok(())
 }
 
 // The part of the file that holds the body of a table; turned back, the empty part at the file's start.
 pub fn body(file: &[u8], table: usize) -> &[u8]
     ensures { PartOf file.entry result (body_span file.now table) }
 {
-    let found = open(file);
-    let Opened::Tables(k) = found else {
+    let Ok(k) = open(file) else {
         return &file[..0];
     };
     if table < k {

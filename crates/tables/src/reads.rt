@@ -6,7 +6,7 @@ ghost use Rattle.tables.specs.Tables.{table_of};
 
 use rules::Row;
 
-// A contents entry: `states` is document 01's n, and `rows` its m.
+// A contents entry as the file has it: `kind` is any byte, `states` is document 01's n, and `rows` its m.
 #[derive(Clone, Copy)]
 pub struct Entry {
     pub kind: u8,
@@ -16,10 +16,6 @@ pub struct Entry {
 }
 
 impl Entry {
-    pub const DEMAND: u8 = 1;
-
-    pub const SUPPLY: u8 = 2;
-
     // How many bytes the body has.
     pub fn body_length(self) -> usize
         ensures { result ≡ body_length self }
@@ -31,13 +27,7 @@ impl Entry {
 fn byte(bytes: &[u8], at: usize) -> u8
     ensures { result ≡ byte_at bytes.now at }
 {
-    if at < bytes.len() { bytes[at] } else { 0 }
-}
-
-fn little_endian(low: u8, high: u8) -> u16
-    ensures { result ≡ low + 256 * high }
-{
-    low as u16 + 256 * (high as u16)
+    bytes.get(at).copied().unwrap_or(0)
 }
 
 // The little-endian number of two bytes.
@@ -47,7 +37,7 @@ fn word(bytes: &[u8], at: usize) -> u16
     if bytes.len() <= at {
         return 0;
     }
-    little_endian(byte(bytes, at), byte(bytes, at + 1))
+    u16::from_le_bytes([byte(bytes, at), byte(bytes, at + 1)])
 }
 
 // The k of a file, the count of its tables.

@@ -8,10 +8,14 @@ use Rattle.lines.proofs.LineLaws.{length-refused}
 use Rattle.aut.proofs.put_refusal.Goals as goal
 
 pub put_refused-requires : goal.put_refused-requires
-put_refused-requires c = omega (arith, length-refused c.args.refusal.number c.args.refusal.place, length-decimal c.args.refusal.number, length-decimal c.args.refusal.place)
+put_refused-requires c = omega (arith, length-refused c.number.result c.args.refusal.place, length-decimal c.number.result, length-decimal c.args.refusal.place)
 
 pub returns-clause-count : goal.returns-clause-count
-returns-clause-count c = let room = c.requires in c.put_refused.ensures.place ∙ zero-add _
+returns-clause-count c = let room = c.requires in rw (← c.number.ensures) (c.put_refused.ensures.place ∙ zero-add _)
 
 pub returns-clause-bytes : goal.returns-clause-bytes
-returns-clause-bytes c = let room = c.requires in c.put_refused.ensures.bytes ∙ write_at-overwrite _ _ (omega (arith, length-refused c.args.refusal.number c.args.refusal.place, length-decimal c.args.refusal.number, length-decimal c.args.refusal.place))
+returns-clause-bytes c =
+    let room = c.requires in
+    rw (← c.number.ensures)
+    (c.put_refused.ensures.bytes
+    ∙ write_at-overwrite _ _ (omega (arith, length-refused c.number.result c.args.refusal.place, length-decimal c.number.result, length-decimal c.args.refusal.place)))

@@ -3,20 +3,19 @@ use mathlib.Core.Path.{sym, ◌∙◌}
 use native.Mathlib.Omega.{arith}
 use lib.Seq.{length-take-le}
 use Rattle.report.proofs.ReportLaws.{count_within, never_refused, whole_count, bytes_written}
-use Rattle.rules.proofs.ClauseLaws.{as_count_bytes}
 use Rattle.slots.proofs.print.Goals as goal
 
-pub returns-in_default : goal.returns-in_default
-returns-in_default c = as_count_bytes (absurd (never_refused _ _ c.requires _ (rw c.in_default.is at c.write-written.ensures.answer)))
+pub unwrap-count-requires : goal.unwrap-count-requires
+unwrap-count-requires c = never_refused _ _ c.requires _ c.write.ensures.answer
 
 pub slice_bounds-write_all-end : goal.slice_bounds-write_all-end
-slice_bounds-write_all-end c = let most = count_within _ _ _ (rw c.in-Count.is at c.write-written.ensures.answer) in let same = c.write-written.auto.out in omega arith
+slice_bounds-write_all-end c = let most = count_within _ _ _ (rw c.unwrap-count.ensures at c.write.ensures.answer) in let same = c.write.auto.out in omega arith
 
 pub slice_bounds-write_all-end-2 : goal.slice_bounds-write_all-end-2
-slice_bounds-write_all-end-2 c = sym (length-take-le _ _ (let most = count_within _ _ _ (rw c.in-Count.is at c.write-written.ensures.answer) in let same = c.write-written.auto.out in omega arith))
+slice_bounds-write_all-end-2 c = sym (length-take-le _ _ (let most = count_within _ _ _ (rw c.unwrap-count.ensures at c.write.ensures.answer) in let same = c.write.auto.out in omega arith))
 
 pub returns-clause-count : goal.returns-clause-count
-returns-clause-count c = whole_count _ _ c.requires _ (rw c.in-Count.is at c.write-written.ensures.answer)
+returns-clause-count c = whole_count _ _ c.requires _ (rw c.unwrap-count.ensures at c.write.ensures.answer)
 
 pub returns-clause-bytes : goal.returns-clause-bytes
-returns-clause-bytes c = c.write-written.ensures.bytes ∙ bytes_written _ _ c.requires
+returns-clause-bytes c = c.write.ensures.bytes ∙ bytes_written _ _ c.requires

@@ -9,12 +9,12 @@ use Rattle.tables.proofs.body.Goals as goal
 
 pub returns-in_default : goal.returns-in_default
 unfolding body_span
-returns-in_default c = rw (body_refused _ _ _ c.open-found.ensures _ c.in_default.is) (record { block = refl; start = omega arith; bytes = refl })
+returns-in_default c = rw (body_refused _ _ _ c.open.ensures _ c.in_default.is) (record { block = refl; start = omega arith; bytes = refl })
 
 pub returns-then-table-k : goal.returns-then-table-k
 unfolding body_span
-returns-then-table-k c = let laid = opened_laid c.args.file.now _ (rw c.in-Tables.is at c.open-found.ensures) in rw (body_there _ _ _ c.open-found.ensures _ c.in-Tables.is c.if-table-k.true, ← c.entry_at.ensures) (rw (span_within c.args.file.now c.entry_at.result (rw c.entry_at.ensures (laid.within _ c.if-table-k.true))) at c.entry_body.ensures)
+returns-then-table-k c = let laid = opened_laid c.args.file.now _ (rw c.in-Ok.is at c.open.ensures) in rw (body_there _ _ _ c.open.ensures _ c.in-Ok.is c.if-table-k.true, ← c.entry_at.ensures) (rw (span_within c.args.file.now c.entry_at.result (rw c.entry_at.ensures (laid.within _ c.if-table-k.true))) at c.entry_body.ensures)
 
 pub returns : goal.returns
 unfolding body_span
-returns c = rw (body_missing _ _ _ c.open-found.ensures _ c.in-Tables.is c.if-table-k.false) (record { block = refl; start = omega arith; bytes = refl })
+returns c = rw (body_missing _ _ _ c.open.ensures _ c.in-Ok.is c.if-table-k.false) (record { block = refl; start = omega arith; bytes = refl })

@@ -1,12 +1,14 @@
--- `tables::open` meets its contract. By what the checks of the file find.
+-- By what the checks find.
+use Rattle.std.proofs.Common.{◌∙◌, refl, ap}
+use Rattle.tables.specs.Answers.{answer, counted}
 use Rattle.tables.specs.Open.{open_of}
-use Rattle.tables.specs.Answers.{answer}
+use Rattle.tables.proofs.CheckLaws.{handed_on}
 use Rattle.tables.proofs.open.Goals as goal
 
-pub returns-in-Fault : goal.returns-in-Fault
+pub returns-in_err-check_file : goal.returns-in_err-check_file
 unfolding open_of answer
-returns-in-Fault c = simp (← c.check_file.ensures, c.in-Fault.is)
+returns-in_err-check_file c = ap counted (handed_on _ _ c.from_residual.ensures.1) ∙ rw (← c.check_file.ensures, c.in_err-check_file.was) refl
 
-pub returns-in-Passed : goal.returns-in-Passed
+pub returns : goal.returns
 unfolding open_of answer
-returns-in-Passed c = simp (← c.check_file.ensures, c.in-Passed.is, c.table_count.ensures)
+returns c = rw (← c.check_file.ensures, c.in_ok-check_file.was, c.table_count.ensures) refl

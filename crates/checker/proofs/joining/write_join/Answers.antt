@@ -1,5 +1,6 @@
 -- `checker::joining::write_join` meets its contract. The engine's answer decides.
 use native.Mathlib.Omega.{arith}
+use Rattle.tables.proofs.CheckLaws.{handed_on}
 use Rattle.questions.proofs.PairLaws.{table_loads}
 use Rattle.questions.proofs.SizeLaws.{first_at, second_at}
 use Rattle.checker.proofs.JoinLaws.{product_is, two_demands, rows_found, write_answers}
@@ -15,11 +16,10 @@ load_table-requires-2 c = table_loads _ _ _ (second_at _ _ _ c.requires) _ (omeg
 pub write-requires : goal.write-requires
 write-requires c = two_demands _ _ _ c.requires _ c.load_table.ensures.machine _ c.load_table-2.ensures.machine c.load_table.ensures.kept c.load_table-2.ensures.kept
 
-pub returns-in-TooMany : goal.returns-in-TooMany
-returns-in-TooMany c = rw c.new.ensures (as_answer_slice (write_answers _ _ _ c.requires _ (product_is _ _ _ c.requires _ c.load_table.ensures.machine _ c.load_table-2.ensures.machine c.pair_count-states.ensures) _ _ _ (rows_found _ _ _ c.requires _ c.load_table.ensures.machine _ c.load_table-2.ensures.machine) c.write.ensures.answer c.write.ensures.slice c.in-TooMany.is))
+pub returns-in_err-rows : goal.returns-in_err-rows
+returns-in_err-rows c =
+    rw (handed_on _ _ c.from_residual.ensures.1)
+    (as_answer_slice (write_answers _ _ _ c.requires _ (product_is _ _ _ c.requires _ c.load_table.ensures.machine _ c.load_table-2.ensures.machine c.pair_count-states.ensures) _ _ _ (rows_found _ _ _ c.requires _ c.load_table.ensures.machine _ c.load_table-2.ensures.machine) c.write.ensures.answer c.write.ensures.slice c.in_err-rows.was))
 
-pub returns-in-NoRoom : goal.returns-in-NoRoom
-returns-in-NoRoom c = rw c.new-in-NoRoom.ensures (as_answer_slice (write_answers _ _ _ c.requires _ (product_is _ _ _ c.requires _ c.load_table.ensures.machine _ c.load_table-2.ensures.machine c.pair_count-states.ensures) _ _ _ (rows_found _ _ _ c.requires _ c.load_table.ensures.machine _ c.load_table-2.ensures.machine) c.write.ensures.answer c.write.ensures.slice c.in-NoRoom.is))
-
-pub returns-in-Count : goal.returns-in-Count
-returns-in-Count c = as_answer_slice (write_answers _ _ _ c.requires _ (product_is _ _ _ c.requires _ c.load_table.ensures.machine _ c.load_table-2.ensures.machine c.pair_count-states.ensures) _ _ _ (rows_found _ _ _ c.requires _ c.load_table.ensures.machine _ c.load_table-2.ensures.machine) c.write.ensures.answer c.write.ensures.slice c.in-Count.is)
+pub returns : goal.returns
+returns c = as_answer_slice (write_answers _ _ _ c.requires _ (product_is _ _ _ c.requires _ c.load_table.ensures.machine _ c.load_table-2.ensures.machine c.pair_count-states.ensures) _ _ _ (rows_found _ _ _ c.requires _ c.load_table.ensures.machine _ c.load_table-2.ensures.machine) c.write.ensures.answer c.write.ensures.slice c.in_ok-rows.was)

@@ -2,6 +2,7 @@
 use native.Mathlib.Omega.{arith}
 use Rattle.tables.specs.Checks.{refuse}
 use Rattle.tables.proofs.CheckLaws.{turned_back_lem}
+use Rattle.tables.specs.declared.Reason.TheVariants.{NoRoom}
 use Rattle.questions.proofs.PairLaws.{pairs_are}
 use Rattle.questions.proofs.ModeLaws.{mode_asked}
 use Rattle.checker.specs.Decide.{decide_answer, decide_slice}
@@ -14,7 +15,7 @@ load_pair-start-requires c = (mode_asked _ _ _ c.requires, omega arith, omega ar
 
 pub returns-then-marks-pair_count : goal.returns-then-marks-pair_count
 unfolding decide_answer decide_slice
-returns-then-marks-pair_count c = rw c.new.ensures (as_answer_slice (turned_back_lem _ (refuse 14 0) _ _ _ (short_fault _ _ _ c.requires _ (rw (← pairs_are c.load_pair-start.ensures.loaded c.pair_count.ensures) c.if-marks-pair_count.true))))
+returns-then-marks-pair_count c = rw c.new.ensures (as_answer_slice (turned_back_lem _ (refuse NoRoom 0) _ _ _ (short_fault _ _ _ c.requires _ (rw (← pairs_are c.load_pair-start.ensures.loaded c.pair_count.ensures) c.if-marks-pair_count.true))))
 
 pub write-summary-requires : goal.write-summary-requires
 write-summary-requires c = (c.load_pair-start.ensures.loaded.machines, rw (← c.pair_count.ensures) c.if-marks-pair_count.false)

@@ -9,11 +9,11 @@ use Rattle.tables.proofs.checks.check_header.Goals as goal
 
 pub returns-then-len-lt2 : goal.returns-then-len-lt2
 unfolding header_fault fault ◌then◌
-returns-then-len-lt2 c = simp (lt-ltb _ _ c.if-len-lt2.true, c.fault_at.ensures)
+returns-then-len-lt2 c = simp (lt-ltb _ _ c.if-len-lt2.true, c.fault.ensures)
 
 pub returns-then-is_outside : goal.returns-then-is_outside
 unfolding header_fault fault ◌then◌
-returns-then-is_outside c = simp (le-ltb _ _ c.if-len-lt2.false, ← c.table_count-k.ensures, ← c.is_outside.ensures, c.if-is_outside.true, c.fault_at-then-is_outside.ensures)
+returns-then-is_outside c = simp (le-ltb _ _ c.if-len-lt2.false, ← c.table_count-k.ensures, ← c.is_outside.ensures, c.if-is_outside.true, c.fault-then-is_outside.ensures)
 
 pub overflow_mul-k : goal.overflow_mul-k
 overflow_mul-k c = omega (arith, outside_high _ _ _ (sym c.is_outside.ensures ∙ c.if-is_outside.false))
@@ -23,7 +23,7 @@ overflow_add-k c = omega (arith, outside_high _ _ _ (sym c.is_outside.ensures �
 
 pub returns-then-len-k : goal.returns-then-len-k
 unfolding header_fault fault ◌then◌
-returns-then-len-k c = simp (le-ltb _ _ c.if-len-lt2.false, ← c.table_count-k.ensures, ← c.is_outside.ensures, c.if-is_outside.false, lt-ltb _ _ c.if-len-k.true, c.fault_at-then-len-k.ensures)
+returns-then-len-k c = simp (le-ltb _ _ c.if-len-lt2.false, ← c.table_count-k.ensures, ← c.is_outside.ensures, c.if-is_outside.false, lt-ltb _ _ c.if-len-k.true, c.fault-then-len-k.ensures)
 
 pub returns : goal.returns
 unfolding header_fault fault ◌then◌

@@ -6,7 +6,7 @@ use Rattle.tables.proofs.checks.check_length.Goals as goal
 
 pub returns-then-len-end : goal.returns-then-len-end
 unfolding length_fault fault
-returns-then-len-end c = simp (← c.requires, ne_eqb _ _ c.if-len-end.true, c.fault_at.ensures)
+returns-then-len-end c = simp (← c.requires, ne_eqb _ _ c.if-len-end.true, c.fault.ensures)
 
 pub returns : goal.returns
 unfolding length_fault fault

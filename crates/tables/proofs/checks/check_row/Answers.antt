@@ -8,20 +8,20 @@ use Rattle.tables.proofs.checks.check_row.Goals as goal
 
 pub returns-then-row-eq-FIN : goal.returns-then-row-eq-FIN
 unfolding row_fault fault ◌then◌
-returns-then-row-eq-FIN c = simp (← c.row_at-row.ensures, eq-eqb _ _ c.if-row-eq-FIN.true, c.fault_at.ensures)
+returns-then-row-eq-FIN c = simp (← c.row_at-row.ensures, eq-eqb _ _ c.if-row-eq-FIN.true, c.fault.ensures)
 
 pub returns-then-n-row : goal.returns-then-n-row
 unfolding row_fault fault ◌then◌
-returns-then-n-row c = simp (← c.row_at-row.ensures, ne_eqb _ _ c.if-row-eq-FIN.false, le-leb _ _ c.if-n-row.true, c.fault_at-then-n-row.ensures)
+returns-then-n-row c = simp (← c.row_at-row.ensures, ne_eqb _ _ c.if-row-eq-FIN.false, le-leb _ _ c.if-n-row.true, c.fault-then-n-row.ensures)
 
 pub returns-then-n-row-2 : goal.returns-then-n-row-2
 unfolding row_fault fault ◌then◌
-returns-then-n-row-2 c = simp (← c.row_at-row.ensures, ne_eqb _ _ c.if-row-eq-FIN.false, lt-leb _ _ c.if-n-row.false, le-leb _ _ c.if-n-row-2.true, c.fault_at-then-n-row-2.ensures)
+returns-then-n-row-2 c = simp (← c.row_at-row.ensures, ne_eqb _ _ c.if-row-eq-FIN.false, lt-leb _ _ c.if-n-row.false, le-leb _ _ c.if-n-row-2.true, c.fault-then-n-row-2.ensures)
 
 pub returns-then-not-rises_to : goal.returns-then-not-rises_to
 unfolding row_fault fault ◌then◌
 returns-then-not-rises_to c = let later : c.args.j ≡ 0 → ⊥ = λ e. omega (arith, c.if-j-gt0.true) in
-    simp (← c.row_at-row.ensures, ne_eqb _ _ c.if-row-eq-FIN.false, lt-leb _ _ c.if-n-row.false, lt-leb _ _ c.if-n-row-2.false, ne_eqb _ _ later, ← c.row_at-before.ensures, ← c.rises_to.ensures, c.if-not-rises_to.true, c.fault_at-then-not-rises_to.ensures)
+    simp (← c.row_at-row.ensures, ne_eqb _ _ c.if-row-eq-FIN.false, lt-leb _ _ c.if-n-row.false, lt-leb _ _ c.if-n-row-2.false, ne_eqb _ _ later, ← c.row_at-before.ensures, ← c.rises_to.ensures, c.if-not-rises_to.true, c.fault-then-not-rises_to.ensures)
 
 pub returns-else-not-rises_to : goal.returns-else-not-rises_to
 unfolding row_fault fault ◌then◌

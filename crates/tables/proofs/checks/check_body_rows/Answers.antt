@@ -7,7 +7,7 @@ use Rattle.tables.specs.Checks.{scan}
 use Rattle.tables.specs.Open.{row_fault}
 use Rattle.tables.specs.File.{body_length}
 use Rattle.tables.proofs.FileLaws.{span_within}
-use Rattle.tables.proofs.checks.check_body.Goals as goal
+use Rattle.tables.proofs.checks.check_body_rows.Goals as goal
 
 pub check_rows-requires : goal.check_rows-requires
 unfolding body_length
