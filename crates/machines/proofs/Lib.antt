@@ -2,3 +2,4 @@ pub mod RangeLaws
 pub mod FillLaws
 pub mod LoadLaws
 pub mod StateLaws
+pub mod StoredLaws

@@ -1,3 +1,5 @@
 pub mod Memory
 pub mod Load
 pub mod States
+pub mod Stored
+pub mod Machine

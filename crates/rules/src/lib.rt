@@ -63,7 +63,7 @@ impl Row {
 }
 
 // A move of a state: the number of its row, the row's set, and the state that it leads to.
-#[derive(Clone, Copy)]
+#[derive(Clone, Copy, Default)]
 pub struct Move {
     pub row: u16,
     pub set: u16,
