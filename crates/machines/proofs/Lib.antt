@@ -3,3 +3,4 @@ pub mod FillLaws
 pub mod LoadLaws
 pub mod StateLaws
 pub mod StoredLaws
+pub mod StateSetLaws
