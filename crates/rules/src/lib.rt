@@ -6,6 +6,7 @@
 ghost use Rattle.std.specs.Prelude.{◌≡◌};
 ghost use Rattle.rules.specs.Sets.{difference, disjoint, left, consumed, unmet, inside, larger};
 ghost use Rattle.rules.specs.Rows.{row, move, idle, no_move, rises};
+ghost use Rattle.rules.specs.Moves.{left_of, consumed_of, unmet_of};
 
 // The limits of document 01: resources in a set, states and rows of a table, tables and bytes of a file.
 #[derive(Drop)]
@@ -89,6 +90,37 @@ impl Move {
         ensures { result ≡ no_move }
     {
         Move::new(Row::NO_RESPONSE, 0, Row::FIN)
+    }
+}
+
+// A move of a pair of states: one of the task and one of the supply.
+#[derive(Clone, Copy)]
+pub struct Candidate {
+    pub task: Move,
+    pub supply: Move,
+}
+
+#[tactic(auto, unfolding(crate::specs::Moves::left_of, crate::specs::Moves::consumed_of, crate::specs::Moves::unmet_of))]
+impl Candidate {
+    // What is granted and not requested.
+    pub fn left(self) -> u16
+        ensures { result ≡ left_of self }
+    {
+        left(self.task.set, self.supply.set)
+    }
+
+    // What is requested and granted.
+    pub fn consumed(self) -> u16
+        ensures { result ≡ consumed_of self }
+    {
+        consumed(self.task.set, self.supply.set)
+    }
+
+    // What is requested and not granted.
+    pub fn unmet(self) -> u16
+        ensures { result ≡ unmet_of self }
+    {
+        unmet(self.task.set, self.supply.set)
     }
 }
 
