@@ -13,7 +13,8 @@ use Rattle.rules.specs.Rows.{idle}
 use Rattle.rules.specs.Machines.{Machine, Rises}
 use Rattle.rules.specs.Slices.{overwrite}
 use Rattle.rules.specs.Actions.{Action, beside}
-use Rattle.rules.specs.Moves.{Candidate, pairing, action, survivors, numbers}
+use Rattle.rules.specs.declared.Candidate.{Candidate}
+use Rattle.rules.specs.Moves.{pairing, action, survivors, numbers}
 use Rattle.rules.proofs.ListLaws.{mem_get_or, get_or-mem, length-flat_map, flat_map-part}
 use Rattle.rules.proofs.MachineLaws.{moves_rise}
 use Rattle.rules.proofs.MoveLaws.{survivors_iff, rising_survivors}

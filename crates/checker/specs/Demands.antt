@@ -9,7 +9,8 @@ use Rattle.rules.specs.Below.{max_below}
 use Rattle.rules.specs.Lists.{Pairwise}
 use Rattle.rules.specs.Machines.{Machine}
 use Rattle.rules.specs.Actions.{Action, beside}
-use Rattle.rules.specs.Moves.{Candidate, Survives, Precedes, numbers}
+use Rattle.rules.specs.declared.Candidate.{Candidate}
+use Rattle.rules.specs.Moves.{Survives, Precedes, numbers}
 use Rattle.rules.specs.Relations.{Pairs, Passing, Meets}
 use Rattle.rules.specs.Rounds.{Kept, mark_at, count_pairs}
 use Rattle.rules.specs.Runs.{Free, Schedulable}

@@ -2,7 +2,8 @@
 use Rattle.std.specs.Prelude.{ℕ, ◌*◌, ltb, length}
 use mathlib.Core.List.{List, [], ◌∷◌, flat_map}
 use Rattle.rules.specs.Slices.{overwrite}
-use Rattle.rules.specs.Moves.{Candidate, survivors, numbers}
+use Rattle.rules.specs.declared.Candidate.{Candidate}
+use Rattle.rules.specs.Moves.{survivors, numbers}
 use Rattle.tables.specs.Checks.{Checked, fault, ◌then◌}
 use Rattle.tables.specs.Answers.{Answer, answer, slice_after}
 use Rattle.tables.specs.declared.Reason.TheVariants.{NoRoom}

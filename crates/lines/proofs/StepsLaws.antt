@@ -7,7 +7,7 @@ use lib.ListN.{length, get_or, drop, length-append, length-drop}
 use lib.Seq.{drop-cons}
 use Rattle.rules.specs.Slices.{write_at}
 use Rattle.rules.proofs.SliceLaws.{write_at-append}
-use Rattle.rules.specs.Moves.{Candidate}
+use Rattle.rules.specs.declared.Candidate.{Candidate}
 use Rattle.rules.specs.Steps.{step_rows}
 use Rattle.lines.specs.Lines.{step_line, step_lines}
 

@@ -1,2 +1,3 @@
 pub mod SurvivorLaws
 pub mod ResponseLaws
+pub mod CandidateLaws

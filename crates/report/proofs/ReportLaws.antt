@@ -12,7 +12,7 @@ use Rattle.rules.specs.declared.Mode.{Mode}
 use Rattle.rules.specs.declared.Mode.TheVariants.{Full, Partial}
 use Rattle.rules.specs.Slices.{write_at, overwrite}
 use Rattle.rules.specs.Machines.{Machine}
-use Rattle.rules.specs.Moves.{Candidate}
+use Rattle.rules.specs.declared.Candidate.{Candidate}
 use Rattle.rules.specs.Rounds.{mark, kept_count, rounds}
 use Rattle.rules.specs.Steps.{slots, steps}
 use Rattle.rules.proofs.SliceLaws.{write_at-overwrite}
