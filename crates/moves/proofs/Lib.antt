@@ -1,3 +1,4 @@
 pub mod SurvivorLaws
 pub mod ResponseLaws
 pub mod CandidateLaws
+pub mod CollectedLaws
