@@ -10,7 +10,6 @@ use native.Mathlib.Nat.{mul-zero, mul-suc}
 use lib.Dec.{T}
 use lib.ListN.{length, get_or, take, drop, length-append}
 use lib.Seq.{take_at, drop-append-add}
-use Rattle.std.specs.List.{list_any}
 use Rattle.rules.specs.Lists.{any, all, first, is_empty, cons_if, keep_if, Pairwise}
 use Rattle.rules.proofs.Booleans.{T-or, T_true, T_false, or_false_l, or_false_r, and_i, and_l, and_r, or_l, or_r, or_cases, or_assoc, and_assoc}
 
@@ -354,8 +353,3 @@ all_any p q r e (x ∷ xs) = go (p x) (q x) (all (λ y. not (p y) || q y) xs) (a
     go false b c d f h = h
     go true true c d f h = h ∙ ap (λ (y : Bool). not (y || d)) (sym f)
     go true false c d f h = ap (λ (y : Bool). not (y || d)) (sym f)
-
--- a test of std is the same
-pub list_any-same : {A : Type 0} (p : A → Bool) (l : List A) → list_any p l ≡ any p l
-list_any-same p [] = refl
-list_any-same p (x ∷ xs) = ap (λ (b : Bool). p x || b) (list_any-same p xs)
