@@ -1,3 +1,1 @@
-pub mod MoveTestLaws
-pub mod LostLaws
 pub mod RoundLaws
