@@ -1,4 +1,2 @@
 pub mod SurvivorLaws
-pub mod ResponseLaws
-pub mod CandidateLaws
 pub mod CollectedLaws
