@@ -16,7 +16,8 @@ use Rattle.tables.specs.Answers.{answer, carried_out, slice_after}
 use Rattle.tables.proofs.CheckLaws.{then_left}
 use Rattle.tables.specs.declared.Reason.TheVariants.{NoRoom}
 use Rattle.std.proofs.Common.{Ok, Err}
-use Rattle.machines.specs.Memory.{states_in, machine_in}
+use Rattle.machines.specs.Machine.{machine_in}
+use Rattle.questions.specs.declared.Loaded.{Loaded}
 use Rattle.marks.specs.declared.Summary.{Summary}
 use Rattle.marks.specs.Rounds.{summary_of}
 use Rattle.marks.proofs.RoundLaws.{has-marks}
@@ -45,24 +46,24 @@ module _ (s : List ℕ) (q : Question) (mode : ℕ) (a : mode_checks s q mode �
   asked = mode_asked s q mode a
 
   -- carried out: the start's mark tells yes or no, and the marks stand before the rest of the slice
-  module _ {demand supply : List ℕ} (x : PairLoaded s q demand supply) (m : Mode) (same : m ≡ mode_of mode) (entry exit : List ℕ)
-      (left : exit ≡ overwrite (marks m (machine_in demand) (machine_in supply)) entry) where
+  module _ {l : Loaded} (x : PairLoaded s q l) (m : Mode) (same : m ≡ mode_of mode) (entry exit : List ℕ)
+      (left : exit ≡ overwrite (marks m (machine_in l.demand) (machine_in l.supply)) entry) where
     pub marks_written : exit ≡ overwrite (marks (mode_of mode) (demand_of s q) (supply_of s q)) entry
     marks_written = left ∙ rw (same, x.demand_is, x.supply_is) refl
 
     -- the mark that is read
-    start_mark : {p : Pair} {v : ℕ} → p ≡ pair_of q → v ≡ mark_at (states_in supply) exit p.demand p.supply
+    start_mark : {v : ℕ} → v ≡ mark_at (machine_in l.supply).n exit l.start.demand l.start.supply
         → v ≡ mark (mode_of mode) (demand_of s q) (supply_of s q) q.demand.state q.supply.state
-    start_mark e f =
-        f ∙ ap (λ (z : Pair). mark_at (states_in supply) exit z.demand z.supply) e
+    start_mark f =
+        f ∙ ap (λ (z : Pair). mark_at (machine_in l.supply).n exit z.demand z.supply) x.start_is
         ∙ ap₂ (λ (n : ℕ) (l : List ℕ). mark_at n l q.demand.state q.supply.state) (ap (λ (M : Machine). M.n) x.supply_is) marks_written
         ∙ (has-marks (mode_of mode) (demand_of s q) (supply_of s q) entry refl).each q.demand.state q.supply.state (asked_demand s q asked).state (asked_supply s q asked).state
 
-    pub decide_written : {p : Pair} {v : ℕ} → (demand_of s q).n * (supply_of s q).n ≤ length entry → p ≡ pair_of q → v ≡ mark_at (states_in supply) exit p.demand p.supply
-        → (sum : Summary) → sum ≡ summary_of m demand supply
+    pub decide_written : {v : ℕ} → (demand_of s q).n * (supply_of s q).n ≤ length entry → v ≡ mark_at (machine_in l.supply).n exit l.start.demand l.start.supply
+        → (sum : Summary) → sum ≡ summary_of m (machine_in l.demand) (machine_in l.supply)
         → (carried_out (one (eqb v 0) ∷ sum.kept ∷ sum.rounds ∷ []) ≡ decide_answer s q mode (length entry)) × (exit ≡ decide_slice s q mode entry)
     unfolding decide_answer decide_slice answer slice_after
-    decide_written room e f sum told = (
-      rw (none_fault (length entry) room, start_mark e f, told, same, x.demand_is, x.supply_is) refl,
+    decide_written room f sum told = (
+      rw (none_fault (length entry) room, start_mark f, told, same, x.demand_is, x.supply_is) refl,
       rw (none_fault (length entry) room) marks_written,
     )

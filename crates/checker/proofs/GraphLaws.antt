@@ -15,7 +15,8 @@ use Rattle.tables.specs.Answers.{answer, carried_out, slice_after}
 use Rattle.tables.specs.Tables.{table_of}
 use Rattle.tables.proofs.CheckLaws.{then_left, passed}
 use Rattle.graphs.specs.Graph.{graph_text, IsGraph}
-use Rattle.graphs.specs.Writing.{graph_text_in}
+use Rattle.machines.specs.Machine.{machine_in}
+use Rattle.questions.specs.declared.Loaded.{Loaded}
 use Rattle.graphs.proofs.GraphLaws.{is_graph}
 use Rattle.questions.specs.declared.Question.{Question}
 use Rattle.questions.specs.Pairs.{pair_checks, demand_of, supply_of, pair_of, PairLoaded}
@@ -26,9 +27,9 @@ use Rattle.std.proofs.Common.{Result, Ok, Err}
 use Rattle.checker.specs.Graph.{graph_text_at, graph_checks, graph_answer, graph_slice, GraphDemands}
 
 -- the text, by the two machines
-pub text_found : (s : List ℕ) (q : Question) (demand supply : List ℕ) → PairLoaded s q demand supply → (p : Pair) → p ≡ pair_of q
-    → graph_text_in demand supply p ≡ graph_text_at s q
-text_found s q demand supply x p e = λ i. graph_text (x.demand_is i) (x.supply_is i) (e i)
+pub text_found : (s : List ℕ) (q : Question) {l : Loaded} → PairLoaded s q l
+    → graph_text (machine_in l.demand) (machine_in l.supply) l.start ≡ graph_text_at s q
+text_found s q x = λ i. graph_text (x.demand_is i) (x.supply_is i) (x.start_is i)
 
 module _ (s : List ℕ) (q : Question) (a : pair_checks s q ≡ Ok tt) (text : List ℕ) (same : text ≡ graph_text_at s q) (count : ℕ) (long : count ≡ length text) where
   -- by 14: the text does not fit into room

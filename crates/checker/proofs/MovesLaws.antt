@@ -24,7 +24,8 @@ use Rattle.tables.specs.Checks.{Checked, refuse, fault, ◌then◌}
 use Rattle.tables.specs.Answers.{answer, carried_out, slice_after}
 use Rattle.tables.specs.Tables.{table_of}
 use Rattle.tables.proofs.CheckLaws.{passed}
-use Rattle.moves.specs.Survivors.{survivors_in}
+use Rattle.machines.specs.Machine.{machine_in}
+use Rattle.questions.specs.declared.Loaded.{Loaded}
 use Rattle.questions.specs.declared.Question.{Question}
 use Rattle.questions.specs.Pairs.{pair_checks, demand_of, supply_of, pair_of, PairLoaded}
 use Rattle.tables.specs.Answers.{counted}
@@ -54,10 +55,11 @@ module _ (s : List ℕ) (q : Question) (a : pair_checks s q ≡ Ok tt) (cs : Lis
   moves_written entry exit l w = (rw (none_fault (length entry) l, counted, same) refl, rw (none_fault (length entry) l, ← same) w)
 
 -- the survivors of the pair, by the two machines
-pub survivors_found : (s : List ℕ) (q : Question) (demand supply : List ℕ) → PairLoaded s q demand supply → (p : Pair) → p ≡ pair_of q
-    → survivors_in demand supply p ≡ survivors_at s q
-survivors_found s q demand supply x p e =
-    ap (survivors_in demand supply) e ∙ ap₂ (λ (D S : Machine). survivors D S q.demand.state q.supply.state) x.demand_is x.supply_is
+pub survivors_found : (s : List ℕ) (q : Question) {l : Loaded} → PairLoaded s q l
+    → survivors (machine_in l.demand) (machine_in l.supply) l.start.demand l.start.supply ≡ survivors_at s q
+survivors_found s q {l} x =
+    ap (λ (p : Pair). survivors (machine_in l.demand) (machine_in l.supply) p.demand p.supply) x.start_is
+    ∙ ap₂ (λ (D S : Machine). survivors D S q.demand.state q.supply.state) x.demand_is x.supply_is
 
 -- ---- the moves written are those of PADS
 

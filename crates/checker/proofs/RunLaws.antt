@@ -18,7 +18,8 @@ use Rattle.tables.specs.Checks.{Checked, refuse, fault, ◌then◌}
 use Rattle.tables.specs.Answers.{answer, turned_back, carried_out, slice_after}
 use Rattle.tables.specs.Tables.{table_of}
 use Rattle.tables.proofs.CheckLaws.{then_left, then_fault, turned_back_lem, passed}
-use Rattle.marks.specs.Rounds.{marks_in}
+use Rattle.machines.specs.Machine.{machine_in}
+use Rattle.questions.specs.declared.Loaded.{Loaded}
 use Rattle.marks.proofs.RoundLaws.{has-marks}
 use Rattle.runs.specs.Walks.{RunStarts, mark_from, steps_from}
 use Rattle.questions.specs.declared.Question.{Question}
@@ -59,30 +60,29 @@ module _ (s : List ℕ) (q : Question) (mode : ℕ) (a : mode_checks s q mode �
 
 -- ---- carried out
 
-module _ (s : List ℕ) (q : Question) (mode : ℕ) (a : mode_checks s q mode ≡ Ok tt) {demand supply : List ℕ} (x : PairLoaded s q demand supply) (m : Mode)
-    (same : m ≡ mode_of mode) {p : Pair} (start : p ≡ pair_of q) where
+module _ (s : List ℕ) (q : Question) (mode : ℕ) (a : mode_checks s q mode ≡ Ok tt) {l : Loaded} (x : PairLoaded s q l) (m : Mode)
+    (same : m ≡ mode_of mode) where
   -- the run starts from the pair, and there is room
   pub run_starts : {first second : List ℕ} → (demand_of s q).n * (supply_of s q).n ≤ length first → 2 * ((demand_of s q).n * (supply_of s q).n) ≤ length second
-      → RunStarts demand supply p first second
+      → RunStarts (machine_in l.demand) (machine_in l.supply) l.start first second
   run_starts long room = record {
-    machines = x.machines;
-    demand_state = rw (start, ap (λ (M : Machine). M.n) x.demand_is) (asked_demand s q (mode_asked s q mode a)).state;
-    supply_state = rw (start, ap (λ (M : Machine). M.n) x.supply_is) (asked_supply s q (mode_asked s q mode a)).state;
+    demand_state = rw (x.start_is, ap (λ (M : Machine). M.n) x.demand_is) (asked_demand s q (mode_asked s q mode a)).state;
+    supply_state = rw (x.start_is, ap (λ (M : Machine). M.n) x.supply_is) (asked_supply s q (mode_asked s q mode a)).state;
     marks_room = rw (pairs_are x refl) long;
     steps_room = rw (pairs_are x refl) room;
   }
 
   pub run_carried_out : (first second : List ℕ) → (demand_of s q).n * (supply_of s q).n ≤ length first → 2 * ((demand_of s q).n * (supply_of s q).n) ≤ length second
       → {count : ℕ} {marked stepped : List ℕ}
-      → marked ≡ overwrite (marks_in m demand supply) first
-      → count ≡ mark_from m demand supply p
-      → stepped ≡ overwrite (steps_from m demand supply p) second
+      → marked ≡ overwrite (marks m (machine_in l.demand) (machine_in l.supply)) first
+      → count ≡ mark_from m (machine_in l.demand) (machine_in l.supply) l.start
+      → stepped ≡ overwrite (steps_from m (machine_in l.demand) (machine_in l.supply) l.start) second
       → (carried_out (count ∷ []) ≡ run_answer s q mode (length first) (length second)) × ((marked ≡ run_marks s q mode first (length second)) × (stepped ≡ run_steps s q mode (length first) second))
   unfolding run_answer run_marks run_steps answer slice_after
   run_carried_out first second long room u v w =
       let none = no_fault s q mode a (length first) long (length second) room in (
-        rw none (ap (λ (n : ℕ). carried_out (n ∷ [])) (v ∙ rw (same, start, x.demand_is, x.supply_is) refl)),
-        (rw none (u ∙ rw (same, x.demand_is, x.supply_is) refl), rw none (w ∙ rw (same, start, x.demand_is, x.supply_is) refl)),
+        rw none (ap (λ (n : ℕ). carried_out (n ∷ [])) (v ∙ rw (same, x.start_is, x.demand_is, x.supply_is) refl)),
+        (rw none (u ∙ rw (same, x.demand_is, x.supply_is) refl), rw none (w ∙ rw (same, x.start_is, x.demand_is, x.supply_is) refl)),
       )
 
 -- ---- the run that is shown

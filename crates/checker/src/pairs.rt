@@ -10,8 +10,7 @@ ghost use Rattle.checker.specs.Decide.{decide_answer, decide_slice};
 ghost use Rattle.checker.specs.Run.{run_answer, run_marks, run_steps};
 
 use crate::Verdict;
-use machines::{Layout, pair_count};
-use questions::{Question, load_pair, mode_of};
+use questions::{Loaded, Question, load_pair, mode_of};
 use tables::{Reason, Refusal};
 
 // Counts the surviving moves of the pair, and writes them where there is room.
@@ -24,14 +23,16 @@ pub(crate) fn write_moves(
     ensures answer { counted result ≡ moves_answer file.now question (length out.old) }
     ensures slice { out.new ≡ moves_slice file.now question out.old }
 {
-    let mut demand = [0u32; Layout::ENTRIES];
-    let mut supply = [0u32; Layout::ENTRIES];
-    let pair = load_pair(file, question, &mut demand, &mut supply);
-    let count = moves::count(&demand, &supply, pair);
+    let Loaded {
+        demand,
+        supply,
+        start,
+    } = load_pair(file, question);
+    let count = moves::count(&demand, &supply, start);
     if out.len() / moves::ENTRIES_PER_MOVE < count {
         return Err(Refusal::new(Reason::NoRoom, 0));
     }
-    moves::write(&demand, &supply, pair, out);
+    moves::write(&demand, &supply, start, out);
     Ok(count)
 }
 
@@ -41,9 +42,11 @@ pub(crate) fn write_graph(file: &[u8], question: Question, out: &mut [u8]) -> Re
     ensures answer { counted result ≡ graph_answer file.now question (length out.old) }
     ensures slice { out.new ≡ graph_slice file.now question out.old }
 {
-    let mut demand = [0u32; Layout::ENTRIES];
-    let mut supply = [0u32; Layout::ENTRIES];
-    let start = load_pair(file, question, &mut demand, &mut supply);
+    let Loaded {
+        demand,
+        supply,
+        start,
+    } = load_pair(file, question);
     let extent = graphs::measure(&demand, &supply, start);
     if out.len() < extent.bytes {
         return Err(Refusal::new(Reason::NoRoom, 0));
@@ -63,10 +66,12 @@ pub(crate) fn write_marks(
     ensures answer { decided result ≡ decide_answer file.now question mode (length marks.old) }
     ensures slice { marks.new ≡ decide_slice file.now question mode marks.old }
 {
-    let mut demand = [0u32; Layout::ENTRIES];
-    let mut supply = [0u32; Layout::ENTRIES];
-    let start = load_pair(file, question, &mut demand, &mut supply);
-    if marks.len() < pair_count(&demand, &supply) {
+    let Loaded {
+        demand,
+        supply,
+        start,
+    } = load_pair(file, question);
+    if marks.len() < demand.pairs_with(&supply) {
         return Err(Refusal::new(Reason::NoRoom, 0));
     }
     let summary = marks::write(&demand, &supply, mode_of(mode), marks);
@@ -90,10 +95,12 @@ pub(crate) fn write_run(
     ensures marks { marks.new ≡ run_marks file.now question mode marks.old (length steps.old) }
     ensures steps { steps.new ≡ run_steps file.now question mode (length marks.old) steps.old }
 {
-    let mut demand = [0u32; Layout::ENTRIES];
-    let mut supply = [0u32; Layout::ENTRIES];
-    let start = load_pair(file, question, &mut demand, &mut supply);
-    let pairs = pair_count(&demand, &supply);
+    let Loaded {
+        demand,
+        supply,
+        start,
+    } = load_pair(file, question);
+    let pairs = demand.pairs_with(&supply);
     if marks.len() < pairs {
         return Err(Refusal::new(Reason::NoRoom, 0));
     }

@@ -16,8 +16,11 @@ use Rattle.tables.proofs.CheckLaws.{fault_passed, then_left, then_right}
 use Rattle.tables.proofs.AcceptedLaws.{passed_accepted, accepted_laid}
 use Rattle.tables.proofs.TableLaws.{body_sound}
 use Rattle.std.proofs.Common.{Ok}
-use Rattle.machines.specs.Memory.{states_in, machine_in, InMemory}
-use Rattle.machines.specs.Load.{LoadsTable}
+use Rattle.machines.specs.declared.machine.Machine.{Machine as Memory}
+use Rattle.machines.specs.Machine.{machine_in}
+use Rattle.machines.specs.Stored.{HasTable}
+use Rattle.machines.proofs.StoredLaws.{few_states}
+use Rattle.questions.specs.declared.Loaded.{Loaded}
 use Rattle.questions.specs.declared.Question.{Question}
 use Rattle.questions.specs.declared.named.Named.{Named}
 use Rattle.questions.specs.Named.{named_checks, as_demand, as_supply}
@@ -76,25 +79,17 @@ module _ (s : List ℕ) (i q : ℕ) (t : TableAt s i q) where
   pub state_narrow : q < 256
   state_narrow = let state = t.state in let few = t.table.few_states in omega arith
 
-  pub table_loads : (out : List ℕ) → 579 ≤ length out → LoadsTable s i out
-  table_loads out room = record { table = t.table; within = t.within; room = room }
+  pub table_loads : HasTable s i
+  table_loads = record { table = t.table; within = t.within }
 
 -- with no standing set it is the table's
-pub loaded_plain : (s : List ℕ) (i : ℕ) (l : List ℕ) → machine_in l ≡ widen 0 (machine_of s i) → machine_in l ≡ machine_of s i
-loaded_plain s i l e = e ∙ widen_none (machine_of s i)
-
-pub pair_loaded : (s : List ℕ) (q : Question) (demand supply : List ℕ) → machine_in demand ≡ widen 0 (demand_of s q) → InMemory demand
-    → machine_in supply ≡ widen 0 (supply_of s q) → InMemory supply → PairLoaded s q demand supply
-pair_loaded s q demand supply e x f y = record {
-  machines = record { demand_machine = x; supply_machine = y };
-  demand_is = loaded_plain s q.demand.table demand e;
-  supply_is = loaded_plain s q.supply.table supply f;
-}
+pub loaded_plain : (s : List ℕ) (i : ℕ) (m : Memory) → machine_in m ≡ widen 0 (machine_of s i) → machine_in m ≡ machine_of s i
+loaded_plain s i m e = e ∙ widen_none (machine_of s i)
 
 -- as many pairs as the machines have
-module _ {s : List ℕ} {q : Question} {demand supply : List ℕ} (x : PairLoaded s q demand supply) {pairs : ℕ} (e : pairs ≡ states_in demand * states_in supply) where
+module _ {s : List ℕ} {q : Question} {l : Loaded} (x : PairLoaded s q l) {pairs : ℕ} (e : pairs ≡ (machine_in l.demand).n * (machine_in l.supply).n) where
   pub pairs_are : pairs ≡ (demand_of s q).n * (supply_of s q).n
   pairs_are = e ∙ ap₂ (λ (D S : Machine). D.n * S.n) x.demand_is x.supply_is
 
   pub pairs_few : pairs ≤ 4096
-  pairs_few = rw e (few_pairs (states_in demand) (states_in supply) x.machines.demand_machine.few_states x.machines.supply_machine.few_states)
+  pairs_few = rw e (few_pairs (machine_in l.demand).n (machine_in l.supply).n (few_states l.demand) (few_states l.supply))

@@ -6,8 +6,9 @@ use Rattle.rules.specs.Machines.{Machine}
 use Rattle.tables.specs.Checks.{Checked, fault, ◌then◌}
 use Rattle.tables.specs.Tables.{table_of, machine_of}
 use Rattle.tables.specs.declared.Reason.TheVariants.{NoState}
-use Rattle.machines.specs.Memory.{machine_in, TwoMachines}
+use Rattle.machines.specs.Machine.{machine_in}
 use Rattle.questions.specs.declared.Question.{Question}
+use Rattle.questions.specs.declared.Loaded.{Loaded}
 use Rattle.questions.specs.Named.{named_checks, as_demand, as_supply}
 
 -- after Open's numbers "11 for demand, then supply; 12 wrong kind, demand then supply; 13 state not below n, demand then supply"
@@ -28,8 +29,8 @@ supply_of s q = machine_of s q.supply.table
 abbrev pub pair_of : Question → Pair
 pair_of q = pair q.demand.state q.supply.state
 
--- the two tables, loaded
-pub record PairLoaded (s : List ℕ) (q : Question) (demand supply : List ℕ) : Type 0 where
-  pub machines : TwoMachines demand supply
-  pub demand_is : machine_in demand ≡ demand_of s q
-  pub supply_is : machine_in supply ≡ supply_of s q
+-- the two tables, loaded, and the pair
+pub record PairLoaded (s : List ℕ) (q : Question) (l : Loaded) : Type 0 where
+  pub demand_is : machine_in l.demand ≡ demand_of s q
+  pub supply_is : machine_in l.supply ≡ supply_of s q
+  pub start_is : l.start ≡ pair_of q

@@ -1,13 +1,13 @@
 // Questions about two tables of a file: what turns back every call that names two tables, for a pair of their states, for a pair in a mode, and for a
 // join; the two machines that a question about a pair is about; and the question that the programs ask about a file. Only `load_pair` asks something
-// of its caller: that nothing turns the question back, and that there is room. Relies on `rules` for the meaning, on `tables` for the file, and on
+// of its caller: that nothing turns the question back. Relies on `rules` for the meaning, on `tables` for the file, and on
 // `machines` for loading.
 #![tactic(auto)]
 
-ghost use Rattle.std.specs.Prelude.{◌≡◌, length, ◌≤◌, Ok};
-ghost use Rattle.questions.specs.Pairs.{pair_checks, pair_of, PairLoaded};
+ghost use Rattle.std.specs.Prelude.{◌≡◌, Ok};
+ghost use Rattle.questions.specs.Pairs.{pair_checks, PairLoaded};
 
-use machines::load_table;
+use machines::Machine;
 use rules::Pair;
 use tables::{Reason, Refusal, states_of};
 
@@ -51,18 +51,25 @@ pub fn check_pair(file: &[u8], question: Question) -> Result<(), Refusal>
     Ok(())
 }
 
-// Loads the two tables that a question names, and returns the pair that it asks about.
-pub fn load_pair(file: &[u8], question: Question, demand: &mut [u32], supply: &mut [u32]) -> Pair
-    requires { (pair_checks file.now question ≡ Ok tt) × (579 ≤ length demand.old) × (579 ≤ length supply.old) }
-    ensures pair { result ≡ pair_of question }
-    ensures loaded { PairLoaded file.now question demand.new supply.new }
-    ensures demand_length { length demand.new ≡ length demand.old }
-    ensures supply_length { length supply.new ≡ length supply.old }
+// The two tables that a question names, loaded, and the pair that it asks about.
+#[derive(Drop)]
+pub struct Loaded {
+    pub demand: Machine,
+    pub supply: Machine,
+    pub start: Pair,
+}
+
+// Loads the two tables that a question names.
+pub fn load_pair(file: &[u8], question: Question) -> Loaded
+    requires { pair_checks file.now question ≡ Ok tt }
+    ensures { PairLoaded file.now question result }
 {
-    load_table(file, question.demand.table, 0, demand);
-    load_table(file, question.supply.table, 0, supply);
-    Pair {
-        demand: question.demand.state as u8,
-        supply: question.supply.state as u8,
+    Loaded {
+        demand: Machine::load(file, question.demand.table, 0),
+        supply: Machine::load(file, question.supply.table, 0),
+        start: Pair {
+            demand: question.demand.state as u8,
+            supply: question.supply.state as u8,
+        },
     }
 }

@@ -1,29 +1,19 @@
--- `questions::load_pair` meets its contract.
-use native.Mathlib.Omega.{arith}
-use mathlib.Core.Path.{refl}
-use Rattle.questions.proofs.PairLaws.{asked_demand, asked_supply, state_narrow, table_loads, pair_loaded}
+-- Both tables are in the file, and both states are below 64.
+use Rattle.std.proofs.Common.{refl, arith}
+use Rattle.questions.proofs.PairLaws.{asked_demand, asked_supply, state_narrow, table_loads, loaded_plain}
 use Rattle.questions.proofs.load_pair.Goals as goal
 
-pub load_table-requires : goal.load_table-requires
-load_table-requires c = table_loads _ _ _ (asked_demand _ _ c.requires.0) _ c.requires.1
+pub load-requires : goal.load-requires
+load-requires c = table_loads _ _ _ (asked_demand _ _ c.requires)
 
-pub load_table-requires-2 : goal.load_table-requires-2
-load_table-requires-2 c = table_loads _ _ _ (asked_supply _ _ c.requires.0) _ c.requires.2
+pub load-requires-2 : goal.load-requires-2
+load-requires-2 c = table_loads _ _ _ (asked_supply _ _ c.requires)
 
 pub overflow_cast-result : goal.overflow_cast-result
-overflow_cast-result c = let narrow = state_narrow _ _ _ (asked_demand _ _ c.requires.0) in omega arith
+overflow_cast-result c = let narrow = state_narrow _ _ _ (asked_demand _ _ c.requires) in omega arith
 
 pub overflow_cast-result-2 : goal.overflow_cast-result-2
-overflow_cast-result-2 c = let narrow = state_narrow _ _ _ (asked_supply _ _ c.requires.0) in omega arith
+overflow_cast-result-2 c = let narrow = state_narrow _ _ _ (asked_supply _ _ c.requires) in omega arith
 
-pub returns-clause-pair : goal.returns-clause-pair
-returns-clause-pair c = refl
-
-pub returns-clause-loaded : goal.returns-clause-loaded
-returns-clause-loaded c = pair_loaded _ _ _ _ c.load_table.ensures.machine c.load_table.ensures.kept c.load_table-2.ensures.machine c.load_table-2.ensures.kept
-
-pub returns-clause-demand_length : goal.returns-clause-demand_length
-returns-clause-demand_length c = c.load_table.ensures.length
-
-pub returns-clause-supply_length : goal.returns-clause-supply_length
-returns-clause-supply_length c = c.load_table-2.ensures.length
+pub returns : goal.returns
+returns c = record { demand_is = loaded_plain _ _ c.load.result c.load.ensures; supply_is = loaded_plain _ _ c.load-2.result c.load-2.ensures; start_is = refl }
