@@ -1,1 +1,3 @@
+pub mod MoveTestLaws
+pub mod LostLaws
 pub mod RoundLaws
