@@ -14,7 +14,7 @@ use Rattle.rules.specs.Slices.{overwrite}
 use Rattle.rules.specs.Machines.{Machine, Sound, machine, widen}
 use Rattle.rules.specs.Actions.{tasks, ◌∥◌}
 use Rattle.rules.specs.Join.{join_state, join, IsJoinRow}
-use Rattle.rules.proofs.MachineLaws.{fin_moves}
+use Rattle.rules.proofs.MachineLaws.{fin_moves, widen_none}
 use Rattle.rules.proofs.JoinLaws.{join_rises, join_rows_lem, join_from, join_target, join_parallel}
 use Rattle.tables.specs.declared.Refusal.{Refusal}
 use Rattle.checker.specs.declared.TableSize.{TableSize}
@@ -26,48 +26,34 @@ use Rattle.tables.specs.Tables.{rows_of, table_of, machine_of}
 use Rattle.tables.proofs.CheckLaws.{fault_passed, then_left, then_right, carried_out_lem, passed, turned_whatever}
 use Rattle.tables.proofs.RowLaws.{length-bytes, bytes_rows, bytes_body}
 use Rattle.std.proofs.Common.{Result, Ok, Err}
-use Rattle.machines.specs.Memory.{states_in, machine_in, InMemory}
-use Rattle.joins.specs.Joins.{TwoDemands, rows_in, rows_checks, rows_answer, rows_slice}
+use Rattle.machines.specs.Stored.{HasTable}
+use Rattle.joins.specs.Joins.{rows_checks, rows_answer, rows_slice}
 use Rattle.questions.specs.Sizes.{size_checks}
-use Rattle.questions.proofs.PairLaws.{table_at_sound, loaded_plain}
+use Rattle.questions.proofs.PairLaws.{table_at_sound}
 use Rattle.questions.proofs.SizeLaws.{first_at, second_at, states_few}
 use Rattle.checker.specs.Calls.{joined}
 use Rattle.checker.specs.Join.{join_of, join_checks, join_answer, join_slice, IsJoin, JoinDemands}
 
+-- the answer that writing gives to a joined table of n states
+abbrev answer_of : ℕ → Result ℕ Refusal → Answer
+answer_of n (Ok m) = carried_out (n ∷ m ∷ [])
+answer_of n (Err r) = turned_back r
+
 module _ (s : List ℕ) (i j : ℕ) (a : size_checks s i j ≡ Ok tt) where
-  -- ---- the two machines, as they are loaded
+  -- the two tables can be loaded
+  pub first_filed : HasTable s i
+  first_filed = let t = first_at s i j a in record { table = t.table; within = t.within }
 
-  module _ (one : List ℕ) (e : machine_in one ≡ widen 0 (machine_of s i)) (two : List ℕ) (f : machine_in two ≡ widen 0 (machine_of s j)) where
-    first_is : machine_in one ≡ machine_of s i
-    first_is = loaded_plain s i one e
-
-    second_is : machine_in two ≡ machine_of s j
-    second_is = loaded_plain s j two f
-
-    -- as many pairs as they have
-    pub product_is : {pairs : ℕ} → pairs ≡ states_in one * states_in two → pairs ≡ (table_of s i).n * (table_of s j).n
-    product_is g = g ∙ ap₂ (λ (D E : Machine). D.n * E.n) first_is second_is
-
-    pub two_demands : InMemory one → InMemory two → TwoDemands one two
-    two_demands x y = record { first_machine = x; second_machine = y; few = rw (product_is refl) (states_few s i j a) }
-
-    -- their rows are those of the joined table
-    pub rows_found : rows_in one two ≡ (join_of s i j).rows
-    rows_found = ap₂ (λ (x y : Machine). (join x y).rows) first_is second_is
-
-  -- ---- what writing comes to
-
-  -- the answer that writing gives to a joined table of n states
-  abbrev answer_of : ℕ → Result ℕ Refusal → Answer
-  answer_of n (Ok m) = carried_out (n ∷ m ∷ [])
-  answer_of n (Err r) = turned_back r
+  pub second_filed : HasTable s j
+  second_filed = let t = second_at s i j a in record { table = t.table; within = t.within }
 
   -- the rows decide
   rows_decide : (room : ℕ) → join_checks s i j room ≡ rows_checks (join_of s i j).rows room
   unfolding join_checks ◌then◌
   rows_decide room = rw a refl
 
-  by_rows : (room n : ℕ) → n ≡ (table_of s i).n * (table_of s j).n → (w : Result ℕ Refusal) → counted w ≡ rows_answer (join_of s i j).rows room → answer_of n w ≡ join_answer s i j room
+  by_rows : (room n : ℕ) → n ≡ (table_of s i).n * (table_of s j).n → (w : Result ℕ Refusal) → counted w ≡ rows_answer (join_of s i j).rows room
+      → answer_of n w ≡ join_answer s i j room
   unfolding join_answer rows_answer
   by_rows room n product (Ok m) e =
       let (passes, values) = passed (rows_checks (join_of s i j).rows room) m [] (length (join_of s i j).rows ∷ []) (sym e) in
@@ -75,15 +61,31 @@ module _ (s : List ℕ) (i j : ℕ) (a : size_checks s i j ≡ Ok tt) where
       rw (rows_decide room) (ap₂ (λ (x y : ℕ). carried_out (x ∷ y ∷ [])) product (sym (ap (λ (l : List ℕ). get_or l 0 0) values)) ∙ told.0)
   by_rows room n product (Err r) e = rw (rows_decide room) (turned_whatever _ r _ _ _ e)
 
-  pub write_answers : (n : ℕ) → n ≡ (table_of s i).n * (table_of s j).n → (entry exit : List ℕ) (rows : List Row) → rows ≡ (join_of s i j).rows
-      → {w v : Result ℕ Refusal} → counted w ≡ rows_answer rows (length entry) → exit ≡ rows_slice rows entry → w ≡ v
-      → (answer_of n v ≡ join_answer s i j (length entry)) × (exit ≡ join_slice s i j entry)
-  unfolding join_slice rows_slice
-  write_answers n product entry exit rows found {w} {v} told left e = (
-    by_rows (length entry) n product v (ap counted (sym e) ∙ told ∙ ap (λ (z : List Row). rows_answer z (length entry)) found),
-    left ∙ ap (λ (z : List Row). slice_after (rows_checks z (length entry)) (overwrite (body_bytes z) entry) entry) found
-        ∙ ap (λ (c : Checked). slice_after c (overwrite (body_bytes (join_of s i j).rows) entry) entry) (sym (rows_decide (length entry))),
-  )
+  -- the two machines, as they are loaded
+  module _ {one two : Machine} (e : one ≡ widen 0 (machine_of s i)) (f : two ≡ widen 0 (machine_of s j)) where
+    product_is : one.n * two.n ≡ (table_of s i).n * (table_of s j).n
+    product_is = ap₂ (λ (D E : Machine). D.n * E.n) e f
+
+    pub product_few : one.n * two.n ≤ 64
+    product_few = rw product_is (states_few s i j a)
+
+    -- their rows are those of the joined table
+    rows_found : (join one two).rows ≡ (join_of s i j).rows
+    rows_found = ap₂ (λ (x y : Machine). (join x y).rows) (e ∙ widen_none (machine_of s i)) (f ∙ widen_none (machine_of s j))
+
+    -- what writing them comes to
+    pub write_answers : {n : ℕ} → n ≡ one.n * two.n → (entry exit : List ℕ) {w v : Result ℕ Refusal}
+        → counted w ≡ rows_answer (join one two).rows (length entry) → exit ≡ rows_slice (join one two).rows entry → w ≡ v
+        → record { answer : answer_of n v ≡ join_answer s i j (length entry); slice : exit ≡ join_slice s i j entry }
+    unfolding join_slice rows_slice
+    write_answers {n} product entry exit {w} {v} told left same = record {
+      answer =
+          by_rows (length entry) n (product ∙ product_is) v
+          (ap counted (sym same) ∙ told ∙ ap (λ (z : List Row). rows_answer z (length entry)) rows_found);
+      slice =
+          left ∙ ap (λ (z : List Row). slice_after (rows_checks z (length entry)) (overwrite (body_bytes z) entry) entry) rows_found
+          ∙ ap (λ (c : Checked). slice_after c (overwrite (body_bytes (join_of s i j).rows) entry) entry) (sym (rows_decide (length entry)));
+    }
 
 -- ---- what is written
 

@@ -5,7 +5,7 @@ ghost use Rattle.checker.specs.Calls.{joined};
 ghost use Rattle.checker.specs.Join.{join_answer, join_slice};
 
 use crate::TableSize;
-use machines::{Layout, load_table, pair_count};
+use machines::Machine;
 use tables::Refusal;
 
 // Writes the rows of the join where there is room.
@@ -19,11 +19,9 @@ pub(crate) fn write_join(
     ensures answer { joined result ≡ join_answer file.now first second (length out.old) }
     ensures slice { out.new ≡ join_slice file.now first second out.old }
 {
-    let mut first_machine = [0u32; Layout::ENTRIES];
-    let mut second_machine = [0u32; Layout::ENTRIES];
-    load_table(file, first, 0, &mut first_machine);
-    load_table(file, second, 0, &mut second_machine);
-    let states = pair_count(&first_machine, &second_machine);
+    let first_machine = Machine::load(file, first, 0);
+    let second_machine = Machine::load(file, second, 0);
+    let states = first_machine.pairs_with(&second_machine);
     let rows = joins::write(&first_machine, &second_machine, out)?;
     Ok(TableSize { states, rows })
 }

@@ -1,2 +1,4 @@
-pub mod RowLaws
+pub mod OrderLaws
+pub mod InsertLaws
 pub mod JoinLaws
+pub mod WriteLaws

@@ -1,2 +1,3 @@
-pub mod Building
+pub mod Rising
+pub mod Inserts
 pub mod Joins

@@ -32,7 +32,7 @@ pub enum Mode {
 }
 
 // A row of a table: in state `from`, the set is requested or granted, and the table goes to state `target`.
-#[derive(Clone, Copy, PartialEq, Eq, PartialOrd, Ord)]
+#[derive(Clone, Copy, Default, PartialEq, Eq, PartialOrd, Ord)]
 pub struct Row {
     pub from: u8,
     pub set: u16,
