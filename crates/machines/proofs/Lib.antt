@@ -1,6 +1,3 @@
-pub mod RangeLaws
-pub mod FillLaws
-pub mod LoadLaws
 pub mod StateLaws
 pub mod StoredLaws
 pub mod StateSetLaws

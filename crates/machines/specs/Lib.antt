@@ -1,5 +1,3 @@
-pub mod Memory
-pub mod Load
 pub mod States
 pub mod StateSets
 pub mod Stored
