@@ -22,7 +22,7 @@ use Rattle.marks.specs.declared.Summary.{Summary}
 use Rattle.marks.specs.Rounds.{summary_of}
 use Rattle.marks.proofs.RoundLaws.{has-marks}
 use Rattle.questions.specs.declared.Question.{Question}
-use Rattle.questions.specs.Pairs.{pair_checks, demand_of, supply_of, pair_of, PairLoaded}
+use Rattle.questions.specs.Pairs.{pair_checks, demand_of, supply_of, PairLoaded}
 use Rattle.questions.specs.Modes.{mode_of, mode_checks}
 use Rattle.questions.proofs.PairLaws.{asked_demand, asked_supply}
 use Rattle.questions.proofs.ModeLaws.{mode_asked}

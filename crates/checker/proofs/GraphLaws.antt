@@ -6,7 +6,6 @@ use mathlib.Core.List.{List, [], ◌∷◌}
 use native.Mathlib.Omega.{arith}
 use lib.ListN.{length, get_or}
 use borrow.Author.Tests.{lt-ltb, le-ltb}
-use Rattle.rules.specs.declared.Pair.{Pair}
 use Rattle.rules.specs.Slices.{overwrite}
 use Rattle.rules.proofs.MachineLaws.{moves_rise}
 use Rattle.tables.specs.declared.Refusal.{Refusal}

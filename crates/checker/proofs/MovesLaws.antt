@@ -27,7 +27,7 @@ use Rattle.tables.proofs.CheckLaws.{passed}
 use Rattle.machines.specs.Machine.{machine_in}
 use Rattle.questions.specs.declared.Loaded.{Loaded}
 use Rattle.questions.specs.declared.Question.{Question}
-use Rattle.questions.specs.Pairs.{pair_checks, demand_of, supply_of, pair_of, PairLoaded}
+use Rattle.questions.specs.Pairs.{pair_checks, demand_of, supply_of, PairLoaded}
 use Rattle.tables.specs.Answers.{counted}
 use Rattle.tables.specs.declared.Reason.TheVariants.{NoRoom}
 use Rattle.std.proofs.Common.{Result, Ok, Err}

@@ -6,7 +6,6 @@ use lib.ListN.{length, get_or, take, drop}
 use lib.Seq.{take_at}
 use borrow.Author.Tests.{lt-ltb, le-ltb}
 use Rattle.rules.specs.declared.Mode.{Mode}
-use Rattle.rules.specs.declared.Pair.{Pair}
 use Rattle.rules.specs.Slices.{overwrite}
 use Rattle.rules.specs.Machines.{Machine}
 use Rattle.rules.specs.Rounds.{mark, marks}
@@ -23,7 +22,7 @@ use Rattle.questions.specs.declared.Loaded.{Loaded}
 use Rattle.marks.proofs.RoundLaws.{has-marks}
 use Rattle.runs.specs.Walks.{RunStarts, mark_from, steps_from}
 use Rattle.questions.specs.declared.Question.{Question}
-use Rattle.questions.specs.Pairs.{pair_checks, demand_of, supply_of, pair_of, PairLoaded}
+use Rattle.questions.specs.Pairs.{pair_checks, demand_of, supply_of, PairLoaded}
 use Rattle.questions.specs.Modes.{mode_of, mode_checks}
 use Rattle.questions.proofs.PairLaws.{asked_demand, asked_supply, table_at_sound, pairs_are}
 use Rattle.questions.proofs.ModeLaws.{mode_asked}

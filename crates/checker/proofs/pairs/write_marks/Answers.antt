@@ -1,5 +1,4 @@
 -- `checker::pairs::write_marks` meets its contract. The engine writes the marks; the start pair's is read from them.
-use native.Mathlib.Omega.{arith}
 use Rattle.tables.specs.Checks.{refuse}
 use Rattle.tables.proofs.CheckLaws.{turned_back_lem}
 use Rattle.tables.specs.declared.Reason.TheVariants.{NoRoom}
