@@ -9,7 +9,7 @@ ghost use Rattle.questions.specs.Pairs.{pair_checks, PairLoaded};
 
 use machines::Machine;
 use rules::Pair;
-use tables::{Reason, Refusal, states_of};
+use tables::{Kind, Reason, Refusal, states_of};
 
 mod modes;
 mod named;
@@ -39,8 +39,14 @@ pub struct Question {
 pub fn check_pair(file: &[u8], question: Question) -> Result<(), Refusal>
     ensures { result ≡ pair_checks file.now question }
 {
-    let demand = Named::demand(question.demand.table);
-    let supply = Named::supply(question.supply.table);
+    let demand = Named {
+        table: question.demand.table,
+        kind: Kind::Demand,
+    };
+    let supply = Named {
+        table: question.supply.table,
+        kind: Kind::Supply,
+    };
     check_named(file, demand, supply)?;
     if (states_of(file, question.demand.table) as usize) <= question.demand.state {
         return Err(Refusal::new(Reason::NoState, 0));

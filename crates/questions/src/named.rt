@@ -1,6 +1,6 @@
 // Two tables of a file that a call names, each by its number and the kind that it has to be. Every call opens the file here.
 ghost use Rattle.std.specs.Prelude.{◌≡◌};
-ghost use Rattle.questions.specs.Named.{named_checks, as_demand, as_supply};
+ghost use Rattle.questions.specs.Named.{named_checks};
 
 use tables::{Kind, Reason, Refusal, entry_at, open};
 
@@ -9,26 +9,6 @@ use tables::{Kind, Reason, Refusal, entry_at, open};
 pub struct Named {
     pub table: usize,
     pub kind: Kind,
-}
-
-impl Named {
-    pub fn demand(table: usize) -> Self
-        ensures { result ≡ as_demand table }
-    {
-        Named {
-            table,
-            kind: Kind::Demand,
-        }
-    }
-
-    pub fn supply(table: usize) -> Self
-        ensures { result ≡ as_supply table }
-    {
-        Named {
-            table,
-            kind: Kind::Supply,
-        }
-    }
 }
 
 // What turns back a call that names two tables of a file.

@@ -4,13 +4,19 @@ ghost use Rattle.questions.specs.Sizes.{size_checks};
 
 use crate::named::{Named, check_named};
 use rules::Limits;
-use tables::{Reason, Refusal, states_of};
+use tables::{Kind, Reason, Refusal, states_of};
 
 // What turns back a join before its rows are built.
 pub fn check_join(file: &[u8], first: usize, second: usize) -> Result<(), Refusal>
     ensures { result ≡ size_checks file.now first second }
 {
-    check_named(file, Named::demand(first), Named::demand(second))?;
+    let kind = Kind::Demand;
+    let first_named = Named { table: first, kind };
+    let second_named = Named {
+        table: second,
+        kind,
+    };
+    check_named(file, first_named, second_named)?;
     let states = states_of(file, first) as usize * states_of(file, second) as usize;
     if Limits::STATES < states {
         return Err(Refusal::new(Reason::TooManyStates, 0));

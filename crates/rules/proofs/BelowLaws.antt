@@ -214,10 +214,6 @@ max_taken (suc n) f = go (T-or (leb (max_below n f) (f n))) (max_taken n f)
     go (inl t) more = inr (n, omega arith, omega (arith, leb→le (max_below n f) (f n) t))
     go (inr t) more = earlier (nleb→lt (max_below n f) (f n) (not_T (leb (max_below n f) (f n)) t)) more
 
-pub max_le : (n : ℕ) (f : ℕ → ℕ) (b : ℕ) → ((i : ℕ) → i < n → f i ≤ b) → max_below n f ≤ b
-max_le zero f b h = omega arith
-max_le (suc n) f b h = omega (arith, max_le n f b (λ i l. h i (omega arith)), h n (omega arith))
-
 pub max_cong : (n : ℕ) (f g : ℕ → ℕ) → ((i : ℕ) → i < n → f i ≡ g i) → max_below n f ≡ max_below n g
 max_cong zero f g h = refl
 max_cong (suc n) f g h = ap₂ max (max_cong n f g (λ i l. h i (omega arith))) (h n (omega arith))
@@ -227,10 +223,6 @@ one_same true true e = refl
 one_same true false e = absurd (omega arith)
 one_same false true e = absurd (omega arith)
 one_same false false e = refl
-
-pub one_le : (b : Bool) → one b ≤ 1
-one_le true = omega arith
-one_le false = omega arith
 
 pub one_mono : (a b : Bool) → (T a → T b) → one a ≤ one b
 one_mono true true f = omega arith

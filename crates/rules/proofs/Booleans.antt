@@ -95,7 +95,3 @@ or_false_l false b e = refl
 pub or_false_r : (a b : Bool) → a || b ≡ false → b ≡ false
 or_false_r true b e = cc
 or_false_r false b e = e
-
-pub not_not : (a : Bool) → not (not a) ≡ a
-not_not true = refl
-not_not false = refl

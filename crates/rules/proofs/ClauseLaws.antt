@@ -3,23 +3,14 @@ module _ {A B : Type 0} where
   pub as_place_bytes : A × B → record { place : A; bytes : B }
   as_place_bytes p = record { place = p.0; bytes = p.1 }
 
-  pub as_marks_rounds : A × B → record { marks : A; rounds : B }
-  as_marks_rounds p = record { marks = p.0; rounds = p.1 }
-
   pub as_answer_slice : A × B → record { answer : A; slice : B }
   as_answer_slice p = record { answer = p.0; slice = p.1 }
 
   pub as_answer_bytes : A × B → record { answer : A; bytes : B }
   as_answer_bytes p = record { answer = p.0; bytes = p.1 }
 
-  pub as_count_bytes : A × B → record { count : A; bytes : B }
-  as_count_bytes p = record { count = p.0; bytes = p.1 }
-
   pub as_text_whole : A × B → record { text : A; whole : B }
   as_text_whole p = record { text = p.0; whole = p.1 }
-
-  pub as_found_steps : A × B → record { found : A; steps : B }
-  as_found_steps p = record { found = p.0; steps = p.1 }
 
 module _ {A B C : Type 0} where
   pub as_answer_slice_demands : A × (B × C) → record { answer : A; slice : B; demands : C }

@@ -8,7 +8,7 @@ use native.Mathlib.Omega.{arith}
 use native.Mathlib.Nat.{div-one, div-div-eq-div-mul, pow-suc, mul_comm, div-eq_of_lt, lt_of_lt_of_le}
 use lib.Dec.{T, T_not, not_T, eqb, eqb→eq, ltb, ltb→lt, nltb→le}
 use lib.Arith.{bin_ind, lt_of_le-ne}
-use lib.Bits.{bit_and, bit_or, and_step, or_step, and_comm, and_self, and_le_l, and_le_r, and_lt, or_lt}
+use lib.Bits.{bit_and, bit_or, and_step, or_step, and_comm, and_self, and_le_l, and_le_r, or_lt}
 use lib.Pow.{pow_mono}
 use Rattle.rules.specs.Sets.{has, intersection, union, difference, disjoint, inside, larger}
 use Rattle.rules.proofs.Booleans.{T-same, T_true, T_false, T-or, eq-T, and_i, and_l, and_r}
@@ -234,17 +234,9 @@ module _ (w : ℕ) where
           let small : a < 2 ^ r = lt_of_lt_of_le h (pow_mono (nltb→le r w (not_T (ltb r w) n))) in
           absurd (subst (λ (x : ℕ). T (eqb (x % 2) 1)) (div-eq_of_lt small) t)
 
-  pub intersection-below : (a b : ℕ) → a < 2 ^ w → b < 2 ^ w → intersection a b < 2 ^ w
-  unfolding intersection
-  intersection-below a b = and_lt w a b
-
   pub union-below : (a b : ℕ) → a < 2 ^ w → b < 2 ^ w → union a b < 2 ^ w
   unfolding union
   union-below a b = or_lt w a b
-
-  pub difference_below : (a b : ℕ) → a < 2 ^ w → difference a b < 2 ^ w
-  unfolding difference
-  difference_below a b h = omega arith
 
   -- inclusion is settled by the w resources
   pub below_inside : (a b : ℕ) → a < 2 ^ w → ((r : ℕ) → r < w → T (has r a) → T (has r b)) → T (inside a b)

@@ -1,6 +1,6 @@
 -- Laws of what is written to a slice. Relies on nothing.
 use Prim.Native.Nat.{ℕ, zero, suc, ◌+◌, ◌≤◌, ◌<◌}
-use mathlib.Core.Path.{◌≡◌, refl, sym, ap, ◌∙◌}
+use mathlib.Core.Path.{◌≡◌, refl, ap, ◌∙◌}
 use mathlib.Core.List.{List, [], ◌∷◌, ◌++◌}
 use mathlib.Core.Logic.{◌⊎◌, inl, inr}
 use native.Mathlib.Omega.{arith}
@@ -33,9 +33,6 @@ unfolding write_at overwrite
 write_at-overwrite [] l h = refl
 write_at-overwrite (x ∷ xs) [] h = absurd (omega arith)
 write_at-overwrite (x ∷ xs) (y ∷ ys) h = write_at-tail 0 xs x ys ∙ ap (λ (z : List ℕ). x ∷ z) (write_at-overwrite xs ys (omega arith))
-
-pub length-overwrite : (xs l : List ℕ) → length xs ≤ length l → length (overwrite xs l) ≡ length l
-length-overwrite xs l h = ap length (sym (write_at-overwrite xs l h)) ∙ length-write_at 0 xs l
 
 -- all that is written stands there
 pub overwrite-long : (xs l : List ℕ) → length xs ≤ length (overwrite xs l)

@@ -7,7 +7,7 @@ use mathlib.Core.Logic.{◌⊎◌, inl, inr}
 use native.Mathlib.Omega.{arith}
 use lib.Arith.{lt_of_le-ne}
 use lib.Dec.{T, not_T, ltb, ltb→lt, nltb→le}
-use lib.ListN.{length, get_or, set}
+use lib.ListN.{length, get_or}
 use lib.Seq.{ext_get_or}
 use Rattle.rules.specs.declared.Row.{Row}
 use Rattle.rules.specs.Lists.{Pairwise}
@@ -20,16 +20,6 @@ use Rattle.rules.proofs.SliceLaws.{write_at-other, write_at-entry}
 use Rattle.tables.specs.File.{word_at, row_of, row_bytes, body_bytes}
 use Rattle.tables.specs.Tables.{rows_of}
 use Rattle.tables.specs.Accepted.{TableBody}
-
--- the four bytes of a row, set one after the other
-pub write_four : (r : Row) (body : List ℕ) (at : ℕ)
-    → set (set (set (set body at r.from) (at + 1) r.target) (at + 2) (r.set % 256)) (at + 3) (r.set / 256) ≡ write_at at (row_bytes r) body
-unfolding write_at row_bytes
-write_four r body at =
-    let one : at + 1 ≡ suc at = omega arith in
-    let two : at + 2 ≡ suc (suc at) = omega arith in
-    let three : at + 3 ≡ suc (suc (suc at)) = omega arith in
-    rw (one, two, three) refl
 
 -- ---- a row that is written
 
