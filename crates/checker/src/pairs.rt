@@ -10,7 +10,7 @@ ghost use Rattle.checker.specs.Decide.{decide_answer, decide_slice};
 ghost use Rattle.checker.specs.Run.{run_answer, run_marks, run_steps};
 
 use crate::Verdict;
-use questions::{Loaded, Question, load_pair, mode_of};
+use questions::{Question, load_pair, mode_of};
 use tables::{Reason, Refusal};
 
 // Counts the surviving moves of the pair, and writes them where there is room.
@@ -23,16 +23,12 @@ pub(crate) fn write_moves(
     ensures answer { counted result ≡ moves_answer file.now question (length out.old) }
     ensures slice { out.new ≡ moves_slice file.now question out.old }
 {
-    let Loaded {
-        demand,
-        supply,
-        start,
-    } = load_pair(file, question);
-    let count = moves::count(&demand, &supply, start);
+    let loaded = load_pair(file, question);
+    let count = moves::count(&loaded.demand, &loaded.supply, loaded.start);
     if out.len() / moves::ENTRIES_PER_MOVE < count {
         return Err(Refusal::new(Reason::NoRoom, 0));
     }
-    moves::write(&demand, &supply, start, out);
+    moves::write(&loaded.demand, &loaded.supply, loaded.start, out);
     Ok(count)
 }
 
@@ -42,16 +38,18 @@ pub(crate) fn write_graph(file: &[u8], question: Question, out: &mut [u8]) -> Re
     ensures answer { counted result ≡ graph_answer file.now question (length out.old) }
     ensures slice { out.new ≡ graph_slice file.now question out.old }
 {
-    let Loaded {
-        demand,
-        supply,
-        start,
-    } = load_pair(file, question);
-    let extent = graphs::measure(&demand, &supply, start);
+    let loaded = load_pair(file, question);
+    let extent = graphs::measure(&loaded.demand, &loaded.supply, loaded.start);
     if out.len() < extent.bytes {
         return Err(Refusal::new(Reason::NoRoom, 0));
     }
-    graphs::write(&demand, &supply, start, extent.lines, out);
+    graphs::write(
+        &loaded.demand,
+        &loaded.supply,
+        loaded.start,
+        extent.lines,
+        out,
+    );
     Ok(extent.bytes)
 }
 
@@ -66,17 +64,13 @@ pub(crate) fn write_marks(
     ensures answer { decided result ≡ decide_answer file.now question mode (length marks.old) }
     ensures slice { marks.new ≡ decide_slice file.now question mode marks.old }
 {
-    let Loaded {
-        demand,
-        supply,
-        start,
-    } = load_pair(file, question);
-    if marks.len() < demand.pairs_with(&supply) {
+    let loaded = load_pair(file, question);
+    if marks.len() < loaded.demand.pairs_with(&loaded.supply) {
         return Err(Refusal::new(Reason::NoRoom, 0));
     }
-    let summary = marks::write(&demand, &supply, mode_of(mode), marks);
+    let summary = marks::write(&loaded.demand, &loaded.supply, mode_of(mode), marks);
     Ok(Verdict {
-        yes: marks::mark_of(&supply, marks, start) == 0,
+        yes: marks::mark_of(&loaded.supply, marks, loaded.start) == 0,
         kept: summary.kept,
         rounds: summary.rounds,
     })
@@ -95,18 +89,21 @@ pub(crate) fn write_run(
     ensures marks { marks.new ≡ run_marks file.now question mode marks.old (length steps.old) }
     ensures steps { steps.new ≡ run_steps file.now question mode (length marks.old) steps.old }
 {
-    let Loaded {
-        demand,
-        supply,
-        start,
-    } = load_pair(file, question);
-    let pairs = demand.pairs_with(&supply);
+    let loaded = load_pair(file, question);
+    let pairs = loaded.demand.pairs_with(&loaded.supply);
     if marks.len() < pairs {
         return Err(Refusal::new(Reason::NoRoom, 0));
     }
     if steps.len() < 2 * pairs {
         return Err(Refusal::new(Reason::NoRoom, 0));
     }
-    let count = runs::write(&demand, &supply, mode_of(mode), start, marks, steps);
+    let count = runs::write(
+        &loaded.demand,
+        &loaded.supply,
+        mode_of(mode),
+        loaded.start,
+        marks,
+        steps,
+    );
     Ok(count as usize)
 }

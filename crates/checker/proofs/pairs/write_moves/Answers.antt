@@ -10,10 +10,10 @@ use Rattle.checker.proofs.pairs.write_moves.Goals as goal
 
 pub returns-then-out-count : goal.returns-then-out-count
 unfolding moves_answer moves_slice
-returns-then-out-count c = rw c.new.ensures (as_answer_slice (turned_back_lem _ (refuse NoRoom 0) _ _ _ (short_fault _ _ c.requires _ (survivors_found _ _ c.load_pair-demand.ensures) _ c.count-count.ensures _ c.if-out-count.true)))
+returns-then-out-count c = rw c.new.ensures (as_answer_slice (turned_back_lem _ (refuse NoRoom 0) _ _ _ (short_fault _ _ c.requires _ (survivors_found _ _ c.load_pair-loaded.ensures) _ c.count-count.ensures _ c.if-out-count.true)))
 
 pub write-requires : goal.write-requires
 write-requires c = let count = c.count-count.ensures in omega arith
 
 pub returns : goal.returns
-returns c = as_answer_slice (moves_written _ _ c.requires _ (survivors_found _ _ c.load_pair-demand.ensures) _ c.count-count.ensures _ _ c.if-out-count.false c.write.ensures)
+returns c = as_answer_slice (moves_written _ _ c.requires _ (survivors_found _ _ c.load_pair-loaded.ensures) _ c.count-count.ensures _ _ c.if-out-count.false c.write.ensures)

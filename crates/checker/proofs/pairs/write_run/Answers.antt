@@ -9,20 +9,20 @@ use Rattle.checker.proofs.RunLaws.{decide_fault, run_turned_back, steps_fault, r
 use Rattle.rules.proofs.ClauseLaws.{as_answer_marks_steps}
 use Rattle.checker.proofs.pairs.write_run.Goals as goal
 
-pub load_pair-demand-requires : goal.load_pair-demand-requires
-load_pair-demand-requires c = mode_asked _ _ _ c.requires
+pub load_pair-loaded-requires : goal.load_pair-loaded-requires
+load_pair-loaded-requires c = mode_asked _ _ _ c.requires
 
 pub returns-then-marks-pairs : goal.returns-then-marks-pairs
-returns-then-marks-pairs c = rw c.new.ensures (as_answer_marks_steps (run_turned_back _ _ _ (refuse NoRoom 0) _ _ (decide_fault _ _ _ _ _ _ (short_fault _ _ _ c.requires _ (rw (← pairs_are c.load_pair-demand.ensures c.pairs_with-pairs.ensures) c.if-marks-pairs.true)))))
+returns-then-marks-pairs c = rw c.new.ensures (as_answer_marks_steps (run_turned_back _ _ _ (refuse NoRoom 0) _ _ (decide_fault _ _ _ _ _ _ (short_fault _ _ _ c.requires _ (rw (← pairs_are c.load_pair-loaded.ensures c.pairs_with-pairs.ensures) c.if-marks-pairs.true)))))
 
 pub overflow_mul-pairs : goal.overflow_mul-pairs
-overflow_mul-pairs c = let few = pairs_few c.load_pair-demand.ensures c.pairs_with-pairs.ensures in omega arith
+overflow_mul-pairs c = let few = pairs_few c.load_pair-loaded.ensures c.pairs_with-pairs.ensures in omega arith
 
 pub returns-then-steps-pairs : goal.returns-then-steps-pairs
-returns-then-steps-pairs c = rw c.new-then-steps-pairs.ensures (as_answer_marks_steps (run_turned_back _ _ _ (refuse NoRoom 0) _ _ (steps_fault _ _ _ c.requires _ (rw (← pairs_are c.load_pair-demand.ensures c.pairs_with-pairs.ensures) c.if-marks-pairs.false) _ (rw (← pairs_are c.load_pair-demand.ensures c.pairs_with-pairs.ensures) c.if-steps-pairs.true))))
+returns-then-steps-pairs c = rw c.new-then-steps-pairs.ensures (as_answer_marks_steps (run_turned_back _ _ _ (refuse NoRoom 0) _ _ (steps_fault _ _ _ c.requires _ (rw (← pairs_are c.load_pair-loaded.ensures c.pairs_with-pairs.ensures) c.if-marks-pairs.false) _ (rw (← pairs_are c.load_pair-loaded.ensures c.pairs_with-pairs.ensures) c.if-steps-pairs.true))))
 
 pub write-count-requires : goal.write-count-requires
-write-count-requires c = run_starts _ _ _ c.requires c.load_pair-demand.ensures _ c.mode_of.ensures (rw (← pairs_are c.load_pair-demand.ensures c.pairs_with-pairs.ensures) c.if-marks-pairs.false) (rw (← pairs_are c.load_pair-demand.ensures c.pairs_with-pairs.ensures) c.if-steps-pairs.false)
+write-count-requires c = run_starts _ _ _ c.requires c.load_pair-loaded.ensures _ c.mode_of.ensures (rw (← pairs_are c.load_pair-loaded.ensures c.pairs_with-pairs.ensures) c.if-marks-pairs.false) (rw (← pairs_are c.load_pair-loaded.ensures c.pairs_with-pairs.ensures) c.if-steps-pairs.false)
 
 pub returns : goal.returns
-returns c = as_answer_marks_steps (run_carried_out _ _ _ c.requires c.load_pair-demand.ensures _ c.mode_of.ensures _ _ (rw (← pairs_are c.load_pair-demand.ensures c.pairs_with-pairs.ensures) c.if-marks-pairs.false) (rw (← pairs_are c.load_pair-demand.ensures c.pairs_with-pairs.ensures) c.if-steps-pairs.false) c.write-count.ensures.marks c.write-count.ensures.count c.write-count.ensures.steps)
+returns c = as_answer_marks_steps (run_carried_out _ _ _ c.requires c.load_pair-loaded.ensures _ c.mode_of.ensures _ _ (rw (← pairs_are c.load_pair-loaded.ensures c.pairs_with-pairs.ensures) c.if-marks-pairs.false) (rw (← pairs_are c.load_pair-loaded.ensures c.pairs_with-pairs.ensures) c.if-steps-pairs.false) c.write-count.ensures.marks c.write-count.ensures.count c.write-count.ensures.steps)
