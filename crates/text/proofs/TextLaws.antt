@@ -60,6 +60,13 @@ wrote_both {xs} {ys} {before} {mid} {after} w v =
           v.bytes (omega arith) ∙ (λ i. write_at (b i) ys (w.bytes (omega arith) i)) ∙ sym (write_at-append before.at xs ys before.out.now);
     }
 
+-- a text that is written from the first byte of a buffer on
+pub wrote_whole : {text buffer : List ℕ} {begun after : Writer} → begun.at ≡ 0 → begun.out.now ≡ buffer → length text < 2 ^ 64 → Wrote text begun after
+    → (after.at ≡ length text) × (after.out.now ≡ write_at 0 text buffer)
+wrote_whole {text} {begun = begun} first same short w =
+    let fits : begun.at + length text < 2 ^ 64 = omega arith in
+    (omega (arith, w.place fits), w.bytes fits ∙ (λ i. write_at (first i) text (same i)))
+
 -- ---- digits
 
 -- a digit below 10 as `io` writes it

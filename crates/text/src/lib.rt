@@ -38,7 +38,7 @@ impl<'a> Writer<'a> {
         let start = self.at.min(self.out.len());
         let count = piece.len().min(self.out.len() - start);
         self.out[start..start + count].copy_from_slice(&piece[..count]);
-        self.at = self.at.wrapping_add(piece.len());
+        self.at = self.at.saturating_add(piece.len());
     }
 
     // Writes a number in decimal.
