@@ -29,11 +29,6 @@ abbrev pub StepsIn : Result Outcome Refusal → List ℕ → List ℕ → Type 0
 StepsIn (Err r) full partial = Unit
 StepsIn (Ok a) full partial = (2 * a.full.steps ≤ length full) × (2 * a.partial.steps ≤ length partial)
 
--- and the text's length is a number of 64 bits
-pub record Whole (page : Result Outcome Refusal) (full partial : List ℕ) : Type 0 where
-  pub steps_in : StepsIn page full partial
-  pub short : length (page_text page full partial) < 2 ^ 64
-
 -- what a mode finds from the pair (t, w)
 abbrev pub found_of : Mode → Machine → Machine → ℕ → ℕ → Found
 found_of mode D S t w =
