@@ -3,7 +3,7 @@
 // for the digits of a decimal number.
 #![tactic(auto)]
 
-ghost use Rattle.std.specs.Prelude.{◌+◌, ◌^◌, ◌<◌, ◌≡◌, length};
+ghost use Rattle.std.specs.Prelude.{◌+◌, ◌^◌, ◌<◌, ◌≡◌, length, take};
 ghost use Rattle.text.specs.Text.{decimal, hex, hex_digit};
 ghost use Rattle.text.specs.Writing.{Wrote};
 
@@ -29,6 +29,22 @@ impl<'a> Writer<'a> {
         ensures { result ≡ self.now.at }
     {
         self.at
+    }
+
+    // The text, as far as it is in the buffer.
+    pub fn text(&self) -> &[u8]
+        ensures { result.now ≡ take self.now.at self.now.out.now }
+    {
+        &self.out[..self.at.min(self.out.len())]
+    }
+
+    // Begins anew at the buffer's first byte.
+    pub fn clear(&mut self)
+        ensures same_reference { self.new.out.ghost_name ≡ self.old.out.ghost_name }
+        ensures bytes { self.new.out.now ≡ self.old.out.now }
+        ensures at { self.new.at ≡ 0 }
+    {
+        self.at = 0;
     }
 
     // Writes the bytes of a piece.
