@@ -81,6 +81,7 @@ impl<'a> Writer<'a> {
 }
 
 // The byte of a hexadecimal digit.
+#[tactic(auto, using(std::proofs::lemmas::Bool::Decides::nat_tests))]
 fn hex_digit(d: u16) -> u8
     requires { d < 16 }
     ensures { result ≡ hex_digit d }
