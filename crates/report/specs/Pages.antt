@@ -1,5 +1,5 @@
 -- A page: the text for a file, composed and not yet written. It is the refusal, or the outcome, with the steps of both modes in slices beside them.
-use Rattle.std.specs.Prelude.{ℕ, ◌*◌, ◌^◌, ◌≤◌, ◌<◌, List, ◌++◌, eqb, length, take, Result, Ok, Err}
+use Rattle.std.specs.Prelude.{ℕ, ◌*◌, ◌≤◌, List, ◌++◌, eqb, length, take, Result, Ok, Err}
 use Rattle.rules.specs.declared.Mode.{Mode}
 use Rattle.rules.specs.declared.Mode.TheVariants.{Full, Partial}
 use Rattle.rules.specs.Machines.{Machine}

@@ -7,8 +7,7 @@ use mathlib.Core.List.{List, [], ◌∷◌, ◌++◌}
 use native.Mathlib.Omega.{arith}
 use lib.Dec.{ltb}
 use native.Mathlib.Nat.{pow-suc, pow-le-pow_right}
-use lib.ListN.{length, get_or, take, drop, set, drop_of_length-le, length-append}
-use lib.Seq.{drop-cons, set_out}
+use lib.ListN.{length, take, set, length-append}
 use borrow.Author.Tests.{ltb-true, ltb-false, lt-ltb, le-ltb}
 use Rattle.io.specs.Digits.{hex_digit_ascii, last_digits, IsDigitCount}
 use Rattle.rules.specs.Slices.{write_at}

@@ -63,7 +63,7 @@ impl<'a> Writer<'a> {
     {
         let mut digits = [0u8; 20];
         let count = io::decimal(n as u64, &mut digits);
-        self.put(&digits[..count])
+        self.put(&digits[..count]);
     }
 
     // Writes a number of 16 bits as four hexadecimal digits, capitals.
@@ -76,7 +76,7 @@ impl<'a> Writer<'a> {
             hex_digit(n / 16 % 16),
             hex_digit(n % 16),
         ];
-        self.put(&digits)
+        self.put(&digits);
     }
 }
 

@@ -3,7 +3,6 @@ use Rattle.std.proofs.Common.{◌∙◌, arith, rules}
 use Rattle.rules.proofs.SliceLaws.{write_at-overwrite}
 use Rattle.text.proofs.TextLaws.{wrote_whole}
 use Rattle.lines.proofs.LineLaws.{refused_short}
-use Rattle.aut.specs.Aut.{refusal_text}
 use Rattle.aut.proofs.put_refusal.Goals as goal
 
 pub returns : goal.returns
