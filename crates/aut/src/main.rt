@@ -12,6 +12,7 @@ use lines::put_refused;
 use questions::ask;
 use rules::Limits;
 use tables::Refusal;
+use text::Writer;
 
 // There is room for texts of 4 MiB.
 const ROOM: usize = 4194304;
@@ -21,7 +22,9 @@ fn put_refusal(refusal: Refusal, out: &mut [u8]) -> usize
     ensures count { result ≡ length (refusal_text refusal) }
     ensures bytes { out.new ≡ overwrite (refusal_text refusal) out.old }
 {
-    put_refused(out, 0, refusal.reason.number() as usize, refusal.place)
+    let mut w = Writer::new(out);
+    put_refused(&mut w, refusal.reason.number() as usize, refusal.place);
+    w.at()
 }
 
 fn put_graph(file: &[u8], question: Question, out: &mut [u8]) -> usize

@@ -22,9 +22,12 @@ four p q r s = length-append (p ++ q ++ r) s ∙ ap (λ (k : ℕ). k + length s)
 five : (p q r s t : List ℕ) → length (p ++ q ++ r ++ s ++ t) ≡ length p + length q + length r + length s + length t
 five p q r s t = length-append (p ++ q ++ r ++ s) t ∙ ap (λ (k : ℕ). k + length t) (four p q r s)
 
-pub length-refused : (number place : ℕ) → length (refused_line number place) ≡ 13 + length (decimal number) + length (decimal place)
+length-refused : (number place : ℕ) → length (refused_line number place) ≡ 13 + length (decimal number) + length (decimal place)
 unfolding refused_line
 length-refused number place = omega (arith, three (field "refused " number) (field " at " place) (ascii "\n"))
+
+pub refused_short : (number place : ℕ) → length (refused_line number place) ≤ 53
+refused_short number place = omega (arith, length-refused number place, length-decimal number, length-decimal place)
 
 pub length-file : (bytes k : ℕ) → length (file_line bytes k) ≡ 21 + length (decimal bytes) + length (decimal k)
 unfolding file_line

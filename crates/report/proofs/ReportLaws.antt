@@ -35,8 +35,8 @@ use Rattle.lines.specs.Lines.{file_line, mode_word, verdict_word, verdict_line, 
 use Rattle.report.specs.Report.{refusal_line, asked_line, mode_text, decision_text, text_after, text, room_fault, report_answer, report_bytes}
 use Rattle.report.specs.declared.pages.Found.{Found}
 use Rattle.report.specs.declared.pages.Outcome.{Outcome}
-use Rattle.report.specs.Pages.{found_text, found_of, page_text, Whole}
-use Rattle.lines.proofs.LineLaws.{length-refused, length-file, length-start, length-verdict, length-step, length-row, four}
+use Rattle.report.specs.Pages.{found_text, found_of, page_text, StepsIn}
+use Rattle.lines.proofs.LineLaws.{refused_short, length-file, length-start, length-verdict, length-step, length-row, four}
 use Rattle.lines.proofs.StepsLaws.{slots_lines}
 use Rattle.report.proofs.DecisionLaws.{few_pairs}
 
@@ -47,9 +47,6 @@ unfolding text
 text_refused s r e = rw (asked_refused s r e) refl
 
 -- ---- how long the text can be
-
-refused_fits : (r : Refusal) → length (refusal_line r) ≤ 53
-refused_fits r = omega (arith, length-refused (number_of r.reason) r.place, length-decimal (number_of r.reason), length-decimal r.place)
 
 word_fits : (mode : Mode) (b : Bool) → length (mode_word mode) + length (verdict_word b) ≤ 11
 unfolding verdict_word
@@ -90,7 +87,7 @@ mode_fits mode D S t w h =
     )
 
 text_after_fits : (s : List ℕ) (c : Checked) → program_checks s ≡ c → length (text_after c s) ≤ 385321
-text_after_fits s (Err r) e = let few = refused_fits r in omega arith
+text_after_fits s (Err r) e = let few = refused_short (number_of r.reason) r.place in omega arith
 text_after_fits s (Ok u) e =
     let q : Question = question_of s in
     let few = few_pairs s q (question_asked s e) in
@@ -116,6 +113,9 @@ pub text_fits : (s : List ℕ) → length (text s) ≤ 385321
 unfolding text
 text_fits s = text_after_fits s (program_checks s) refl
 
+pub text_short : (s : List ℕ) → length (text s) < 2 ^ 64
+text_short s = omega (arith, text_fits s)
+
 -- ---- the composed text
 
 -- what a mode found, with the steps at the start of its slice, is the mode's text
@@ -134,12 +134,6 @@ module _ (mode : Mode) (D S : Machine) (t w : ℕ) (entry : List ℕ) where
       ap (λ (l : List ℕ). verdict_line mode (eqb (mark mode D S t w) 0) (rounds mode D S) (kept_count mode D S) ++ l) (ap step_lines first_steps ∙ lines_are)
 
 module _ (s full partial : List ℕ) where
-  page_short : (x : Result Outcome Refusal) → page_text x full partial ≡ text s → length (page_text x full partial) < 2 ^ 64
-  page_short x e = let few : length (page_text x full partial) ≤ 385321 = rw e (text_fits s) in omega arith
-
-  pub refused_page : (r : Refusal) → text s ≡ refusal_line r → (page_text (Err r) full partial ≡ text s) × Whole (Err r) full partial
-  refused_page r e = (sym e, record { steps_in = tt; short = page_short (Err r) (sym e) })
-
   -- where a question is asked, the answers to it
   module _ (q : Question) (asks : asked_of s ≡ Ok q) (k : ℕ) (count : tables_of s ≡ k) where
     abbrev found : ℕ → Found
@@ -177,9 +171,8 @@ module _ (s full partial : List ℕ) where
           ∙ sym text_outcome
 
       pub answered_page : 8192 ≤ length full → 8192 ≤ length partial
-          → (page_text (Ok outcome) full partial ≡ text s) × Whole (Ok outcome) full partial
-      answered_page h l =
-          (page_is, record { steps_in = (steps_in 0 every full full-found h, steps_in 1 some partial partial-found l); short = page_short (Ok outcome) page_is })
+          → (page_text (Ok outcome) full partial ≡ text s) × StepsIn (Ok outcome) full partial
+      answered_page h l = (page_is, (steps_in 0 every full full-found h, steps_in 1 some partial partial-found l))
 
 -- ---- the call
 

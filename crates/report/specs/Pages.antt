@@ -1,5 +1,5 @@
 -- A page: the text for a file, composed and not yet written. It is the refusal, or the outcome, with the steps of both modes in slices beside them.
-use Rattle.std.specs.Prelude.{ℕ, ◌*◌, ◌^◌, ◌≤◌, ◌<◌, List, ◌++◌, eqb, length, take, Result, Ok, Err}
+use Rattle.std.specs.Prelude.{ℕ, ◌*◌, ◌≤◌, List, ◌++◌, eqb, length, take, Result, Ok, Err}
 use Rattle.rules.specs.declared.Mode.{Mode}
 use Rattle.rules.specs.declared.Mode.TheVariants.{Full, Partial}
 use Rattle.rules.specs.Machines.{Machine}
@@ -28,11 +28,6 @@ page_text (Ok a) full partial =
 abbrev pub StepsIn : Result Outcome Refusal → List ℕ → List ℕ → Type 0
 StepsIn (Err r) full partial = Unit
 StepsIn (Ok a) full partial = (2 * a.full.steps ≤ length full) × (2 * a.partial.steps ≤ length partial)
-
--- and the text's length is a number of 64 bits
-pub record Whole (page : Result Outcome Refusal) (full partial : List ℕ) : Type 0 where
-  pub steps_in : StepsIn page full partial
-  pub short : length (page_text page full partial) < 2 ^ 64
 
 -- what a mode finds from the pair (t, w)
 abbrev pub found_of : Mode → Machine → Machine → ℕ → ℕ → Found

@@ -1,6 +1,6 @@
 // The whole text that the program prints for a file of tables, written to a lent buffer. Nothing is asked of the caller. Relies on `questions` to open
 // the file and for what is asked about it, on `tables` for the count of its tables, on `checker` for the decisions and the runs, on `lines` for the
-// lines of the text, and on `rules` for the modes and limits.
+// lines of the text, on `text` for the writer, and on `rules` for the modes and limits.
 #![tactic(auto)]
 
 ghost use Rattle.std.specs.Prelude.{◌≡◌, length};
@@ -9,6 +9,7 @@ ghost use Rattle.report.specs.Report.{report_answer, report_bytes};
 
 use pages::{STEP_ENTRIES, compose, put_page};
 use tables::{Reason, Refusal};
+use text::Writer;
 
 mod pages;
 
@@ -25,9 +26,12 @@ pub fn write(file: &[u8], out: &mut [u8]) -> Result<usize, Refusal>
     let mut partial = [0u16; STEP_ENTRIES];
     let page = compose(file, &mut full, &mut partial);
     let mut spare = [0u8; 1];
-    let count = put_page(&mut spare, page, &full, &partial);
-    if out.len() < count {
+    let mut counted = Writer::new(&mut spare);
+    put_page(&mut counted, page, &full, &partial);
+    if out.len() < counted.at() {
         return Err(Refusal::new(Reason::NoRoom, 0));
     }
-    Ok(put_page(out, page, &full, &partial))
+    let mut written = Writer::new(out);
+    put_page(&mut written, page, &full, &partial);
+    Ok(written.at())
 }

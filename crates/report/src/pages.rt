@@ -1,16 +1,18 @@
 // A page: the text for a file, composed and not yet written, with the steps of both modes beside it. So its length is known before a byte is written.
-ghost use Rattle.std.specs.Prelude.{◌+◌, ◌*◌, ◌^◌, ◌≤◌, ◌<◌, ◌≡◌, length, Ok};
-ghost use Rattle.rules.specs.Slices.{write_at, overwrite};
+ghost use Rattle.std.specs.Prelude.{◌*◌, ◌≤◌, ◌≡◌, length, Ok};
+ghost use Rattle.rules.specs.Slices.{overwrite};
+ghost use Rattle.text.specs.Writing.{Wrote};
 ghost use Rattle.questions.specs.Pairs.{pair_checks};
 ghost use Rattle.questions.specs.Modes.{mode_of};
 ghost use Rattle.report.specs.Report.{text};
-ghost use Rattle.report.specs.Pages.{found_at, steps_at, found_text, page_text, Whole};
+ghost use Rattle.report.specs.Pages.{found_at, steps_at, found_text, page_text, StepsIn};
 
 use checker::{Question, Verdict};
 use lines::{put_file, put_refused, put_start, put_steps, put_verdict};
 use questions::ask;
 use rules::{Limits, Mode};
 use tables::{Refusal, table_count};
+use text::Writer;
 
 // Entries for the marks of the most pairs there can be, and for the longest run.
 const PAIRS: usize = Limits::STATES * Limits::STATES;
@@ -54,7 +56,7 @@ pub(crate) fn compose(
 ) -> Result<Outcome, Refusal>
     requires { (8192 ≤ length full.old) × (8192 ≤ length partial.old) }
     ensures text { page_text result full.new partial.new ≡ text file.now }
-    ensures whole { Whole result full.new partial.new }
+    ensures whole { StepsIn result full.new partial.new }
 {
     let question = ask(file)?;
     let every = find(file, question, 0, full);
@@ -69,49 +71,44 @@ pub(crate) fn compose(
 }
 
 // Writes what a mode found, with its steps.
-fn put_found(out: &mut [u8], at: usize, mode: Mode, found: Found, steps: &[u16]) -> usize
-    requires { (2 * found.steps ≤ length steps.now) × (at + length (found_text mode found steps.now) < 2 ^ 64) }
-    ensures place { result ≡ at + length (found_text mode found steps.now) }
-    ensures bytes { out.new ≡ write_at at (found_text mode found steps.now) out.old }
+fn put_found(w: &mut Writer, mode: Mode, found: Found, steps: &[u16])
+    requires { 2 * found.steps ≤ length steps.now }
+    ensures { Wrote (found_text mode found steps.now) w.old w.new }
 {
     let verdict = found.verdict;
-    let at = put_verdict(out, at, mode, verdict.yes, verdict.rounds, verdict.kept);
-    let end = 2 * found.steps;
-    put_steps(out, at, &steps[..end])
+    put_verdict(w, mode, verdict.yes, verdict.rounds, verdict.kept);
+    put_steps(w, &steps[..2 * found.steps]);
 }
 
-fn put_outcome(out: &mut [u8], outcome: Outcome, full: &[u16], partial: &[u16]) -> usize
-    requires { Whole (Ok outcome) full.now partial.now }
-    ensures place { result ≡ length (page_text (Ok outcome) full.now partial.now) }
-    ensures bytes { out.new ≡ write_at 0 (page_text (Ok outcome) full.now partial.now) out.old }
+fn put_outcome(w: &mut Writer, outcome: Outcome, full: &[u16], partial: &[u16])
+    requires { StepsIn (Ok outcome) full.now partial.now }
+    ensures { Wrote (page_text (Ok outcome) full.now partial.now) w.old w.new }
 {
-    let at = put_file(out, 0, outcome.bytes, outcome.tables);
+    put_file(w, outcome.bytes, outcome.tables);
     let asked = outcome.question;
-    let at = put_start(
-        out,
-        at,
+    put_start(
+        w,
         asked.demand.table,
         asked.supply.table,
         asked.demand.state,
         asked.supply.state,
     );
-    let at = put_found(out, at, Mode::Full, outcome.full, full);
-    put_found(out, at, Mode::Partial, outcome.partial, partial)
+    put_found(w, Mode::Full, outcome.full, full);
+    put_found(w, Mode::Partial, outcome.partial, partial);
 }
 
-// Writes a text that is composed, as far as the buffer reaches, and returns its length.
+// Writes a text that is composed.
 pub(crate) fn put_page(
-    out: &mut [u8],
+    w: &mut Writer,
     page: Result<Outcome, Refusal>,
     full: &[u16],
     partial: &[u16],
-) -> usize
-    requires { Whole page full.now partial.now }
-    ensures place { result ≡ length (page_text page full.now partial.now) }
-    ensures bytes { out.new ≡ write_at 0 (page_text page full.now partial.now) out.old }
+)
+    requires { StepsIn page full.now partial.now }
+    ensures { Wrote (page_text page full.now partial.now) w.old w.new }
 {
     match page {
-        Ok(outcome) => put_outcome(out, outcome, full, partial),
-        Err(refusal) => put_refused(out, 0, refusal.reason.number() as usize, refusal.place),
+        Ok(outcome) => put_outcome(w, outcome, full, partial),
+        Err(refusal) => put_refused(w, refusal.reason.number() as usize, refusal.place),
     }
 }

@@ -1,57 +1,70 @@
 -- Laws of text: pieces that are written one after the other, and the digits of a number. Relies on `rules` for what a slice holds.
-use Prim.Native.Nat.{ℕ, zero, suc, ◌+◌, ◌*◌, ◌/◌, ◌%◌, ◌^◌, ◌-◌, ◌≤◌, ◌<◌}
+use borrow.Rule.Slice.PartMut.{put_mid}
+use Prim.Native.Nat.{min, ℕ, zero, suc, ◌+◌, ◌*◌, ◌/◌, ◌%◌, ◌^◌, ◌-◌, ◌≤◌, ◌<◌}
 use mathlib.Core.Path.{◌≡◌, refl, sym, ap, ◌∙◌}
 use mathlib.Core.Bool.{Bool, true, false, cond}
 use mathlib.Core.List.{List, [], ◌∷◌, ◌++◌}
 use native.Mathlib.Omega.{arith}
 use lib.Dec.{ltb}
 use native.Mathlib.Nat.{pow-suc, pow-le-pow_right}
-use lib.ListN.{length, get_or, take, drop, set, drop_of_length-le, length-append}
-use lib.Seq.{drop-cons, set_out}
+use lib.ListN.{length, take, set, length-append}
 use borrow.Author.Tests.{ltb-true, ltb-false, lt-ltb, le-ltb}
 use Rattle.io.specs.Digits.{hex_digit_ascii, last_digits, IsDigitCount}
 use Rattle.rules.specs.Slices.{write_at}
 use Rattle.rules.proofs.SliceLaws.{write_at-append}
 use Rattle.text.specs.Text.{digit, digits_in, decimal}
+use Rattle.text.specs.Writing.{Wrote}
+use Rattle.text.specs.declared.Writer.{Writer}
 
--- the first i bytes of a piece are written from `at` on: what is still to come, written to the buffer as it is, gives the whole
-pub record Ahead (at : ℕ) (piece before : List ℕ) (i : ℕ) (out : List ℕ) : Type 0 where
-  pub is : write_at (at + i) (drop i piece) out ≡ write_at at piece before
+-- ---- a piece, as far as the buffer reaches
 
-pub ahead_none : (at : ℕ) (piece before : List ℕ) → Ahead at piece before 0 before
-ahead_none at piece before = let here : at + 0 ≡ at = omega arith in record { is = ap (λ (k : ℕ). write_at k piece before) here }
-
-module _ {at : ℕ} {piece before : List ℕ} {i : ℕ} {out : List ℕ} (a : Ahead at piece before i out) (h : i < length piece) where
-  next : write_at (at + (i + 1)) (drop (i + 1) piece) (set out (at + i) (get_or piece i 0)) ≡ write_at at piece before
-  unfolding write_at
-  next =
-      let more : i + 1 ≡ suc i = omega arith in
-      let place : at + (i + 1) ≡ suc (at + i) = omega arith in
-      rw (place, more) (ap (λ (l : List ℕ). write_at (at + i) l out) (sym (drop-cons piece i 0 h)) ∙ a.is)
-
-  -- a byte that is written, and one that has no room
-  pub ahead_written : Ahead at piece before (i + 1) (set out (at + i) (get_or piece i 0))
-  ahead_written = record { is = next }
-
-  pub ahead_past : length out ≤ at + i → Ahead at piece before (i + 1) out
-  ahead_past past = record { is = ap (λ (l : List ℕ). write_at (at + (i + 1)) (drop (i + 1) piece) l) (sym (set_out out (at + i) (get_or piece i 0) past)) ∙ next }
-
--- the whole piece is written
-pub ahead_all : {at : ℕ} {piece before : List ℕ} {i : ℕ} {out : List ℕ} → Ahead at piece before i out → length piece ≤ i → out ≡ write_at at piece before
+nothing_written : (at : ℕ) (piece : List ℕ) → write_at at piece [] ≡ []
 unfolding write_at
-ahead_all {at} {piece} {before} {i} {out} a h = ap (λ (l : List ℕ). write_at (at + i) l out) (sym (drop_of_length-le piece h)) ∙ a.is
+nothing_written at [] = refl
+nothing_written at (x ∷ xs) = nothing_written (suc at) xs
+
+behind_first : (at : ℕ) (piece : List ℕ) (y : ℕ) (l : List ℕ) → write_at (suc at) piece (y ∷ l) ≡ y ∷ write_at at piece l
+unfolding write_at
+behind_first at [] y l = refl
+behind_first at (x ∷ xs) y l = behind_first (suc at) xs y (set l at x)
+
+-- the bytes of the piece that fit take the place of as many
+pub part_written : (at start count : ℕ) (piece l : List ℕ) → start ≡ min at (length l) → count ≡ min (length piece) (length l - start)
+    → put_mid start count l (take count piece) ≡ write_at at piece l
+unfolding write_at
+part_written at start count piece [] e f = let s : start ≡ 0 = omega arith in let k : count ≡ 0 = omega arith in rw (s, k) (sym (nothing_written at piece))
+part_written (suc at) zero count piece (y ∷ l) e f = absurd (omega arith)
+part_written (suc at) (suc start) count piece (y ∷ l) e f = ap (λ (z : List ℕ). y ∷ z) (part_written at start count piece l (omega arith) (omega arith)) ∙ sym (behind_first at piece y l)
+part_written zero (suc start) count piece (y ∷ l) e f = absurd (omega arith)
+part_written zero zero count [] (y ∷ l) e f = let k : count ≡ 0 = omega arith in rw k refl
+part_written zero zero zero (x ∷ xs) (y ∷ l) e f = absurd (omega arith)
+part_written zero zero (suc count) (x ∷ xs) (y ∷ l) e f = ap (λ (z : List ℕ). x ∷ z) (part_written 0 0 count xs l (omega arith) (omega arith)) ∙ sym (behind_first 0 xs x l)
 
 -- ---- pieces one after the other
 
-module _ (at : ℕ) (xs ys : List ℕ) where
-  together : length (xs ++ ys) ≡ length xs + length ys
-  together = length-append xs ys
+pub wrote_none : {w : Writer} → Wrote [] w w
+unfolding write_at
+wrote_none = record { buffer = refl; place = λ fits. omega arith; bytes = λ fits. refl }
 
-  -- two pieces written make one
-  pub put_both : (before : List ℕ) {b r : ℕ} {mid after : List ℕ} → (b ≡ at + length xs) × (mid ≡ write_at at xs before)
-      → (r ≡ b + length ys) × (after ≡ write_at b ys mid) → (r ≡ at + length (xs ++ ys)) × (after ≡ write_at at (xs ++ ys) before)
-  put_both before (e, m) (f, a) =
-      (omega (arith, together), a ∙ (λ i. write_at (e i) ys (m i)) ∙ sym (write_at-append at xs ys before))
+-- two pieces written make one
+pub wrote_both : {xs ys : List ℕ} {before mid after : Writer} → Wrote xs before mid → Wrote ys mid after → Wrote (xs ++ ys) before after
+wrote_both {xs} {ys} {before} {mid} {after} w v =
+    let together = length-append xs ys in
+    record {
+      buffer = v.buffer ∙ w.buffer;
+      place = λ fits. let b = w.place (omega arith) in let c = v.place (omega arith) in omega arith;
+      bytes =
+          λ fits.
+          let b = w.place (omega arith) in
+          v.bytes (omega arith) ∙ (λ i. write_at (b i) ys (w.bytes (omega arith) i)) ∙ sym (write_at-append before.at xs ys before.out.now);
+    }
+
+-- a text that is written from the first byte of a buffer on
+pub wrote_whole : {text buffer : List ℕ} {begun after : Writer} → begun.at ≡ 0 → begun.out.now ≡ buffer → length text < 2 ^ 64 → Wrote text begun after
+    → (after.at ≡ length text) × (after.out.now ≡ write_at 0 text buffer)
+wrote_whole {text} {begun = begun} first same short w =
+    let fits : begun.at + length text < 2 ^ 64 = omega arith in
+    (omega (arith, w.place fits), w.bytes fits ∙ (λ i. write_at (first i) text (same i)))
 
 -- ---- digits
 

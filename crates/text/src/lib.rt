@@ -1,39 +1,87 @@
-// Text in a lent buffer: a piece, or a number in decimal or hexadecimal, is written from a place on, as far as the buffer reaches, and the place behind
-// it is returned. So the same function counts a text, with the shortest of buffers, and writes it. Relies on `rules` for what a slice holds, and on `io`
+// Text in a lent buffer: a writer puts piece behind piece, numbers in decimal or hexadecimal among them, as far as the buffer reaches, and counts them
+// past its end. So the same function counts a text, with the shortest of buffers, and writes it. Relies on `rules` for what a slice holds, and on `io`
 // for the digits of a decimal number.
 #![tactic(auto)]
 
-ghost use Rattle.std.specs.Prelude.{◌+◌, ◌^◌, ◌<◌, ◌≡◌, length};
-ghost use Rattle.rules.specs.Slices.{write_at};
+ghost use Rattle.std.specs.Prelude.{◌+◌, ◌^◌, ◌<◌, ◌≡◌, length, take};
 ghost use Rattle.text.specs.Text.{decimal, hex, hex_digit};
+ghost use Rattle.text.specs.Writing.{Wrote};
 
-// Writes the bytes of a piece.
-pub fn put(out: &mut [u8], at: usize, piece: &[u8]) -> usize
-    requires { at + length piece.now < 2 ^ 64 }
-    ensures place { result ≡ at + length piece.now }
-    ensures bytes { out.new ≡ write_at at piece.now out.old }
-{
-    for i in 0..piece.len() {
-        let place = at + i;
-        if place < out.len() {
-            out[place] = piece[i];
-        }
-    }
-    at + piece.len()
+// A text that is written to a lent buffer, and the place behind it.
+#[derive(Drop)]
+pub struct Writer<'a> {
+    out: &'a mut [u8],
+    at: usize,
 }
 
-// Writes a number in decimal.
-pub fn put_decimal(out: &mut [u8], at: usize, n: usize) -> usize
-    requires { at + length (decimal n) < 2 ^ 64 }
-    ensures place { result ≡ at + length (decimal n) }
-    ensures bytes { out.new ≡ write_at at (decimal n) out.old }
-{
-    let mut digits = [0u8; 20];
-    let count = io::decimal(n as u64, &mut digits);
-    put(out, at, &digits[..count])
+impl<'a> Writer<'a> {
+    // Begins at the buffer's first byte.
+    pub fn new(out: &'a mut [u8]) -> Self
+        ensures same_reference { result.out.ghost_name ≡ out.entry.ghost_name }
+        ensures bytes { result.out.now ≡ out.old }
+        ensures at { result.at ≡ 0 }
+    {
+        Writer { out, at: 0 }
+    }
+
+    // The place behind the text.
+    pub fn at(&self) -> usize
+        ensures { result ≡ self.now.at }
+    {
+        self.at
+    }
+
+    // The text, as far as it is in the buffer.
+    pub fn text(&self) -> &[u8]
+        ensures { result.now ≡ take self.now.at self.now.out.now }
+    {
+        &self.out[..self.at.min(self.out.len())]
+    }
+
+    // Begins anew at the buffer's first byte.
+    pub fn clear(&mut self)
+        ensures same_reference { self.new.out.ghost_name ≡ self.old.out.ghost_name }
+        ensures bytes { self.new.out.now ≡ self.old.out.now }
+        ensures at { self.new.at ≡ 0 }
+    {
+        self.at = 0;
+    }
+
+    // Writes the bytes of a piece.
+    pub fn put(&mut self, piece: &[u8])
+        ensures { Wrote piece.now self.old self.new }
+    {
+        let start = self.at.min(self.out.len());
+        let count = piece.len().min(self.out.len() - start);
+        self.out[start..start + count].copy_from_slice(&piece[..count]);
+        self.at = self.at.saturating_add(piece.len());
+    }
+
+    // Writes a number in decimal.
+    pub fn put_decimal(&mut self, n: usize)
+        ensures { Wrote (decimal n) self.old self.new }
+    {
+        let mut digits = [0u8; 20];
+        let count = io::decimal(n as u64, &mut digits);
+        self.put(&digits[..count]);
+    }
+
+    // Writes a number of 16 bits as four hexadecimal digits, capitals.
+    pub fn put_hex(&mut self, n: u16)
+        ensures { Wrote (hex n) self.old self.new }
+    {
+        let digits = [
+            hex_digit(n / 4096),
+            hex_digit(n / 256 % 16),
+            hex_digit(n / 16 % 16),
+            hex_digit(n % 16),
+        ];
+        self.put(&digits);
+    }
 }
 
 // The byte of a hexadecimal digit.
+#[tactic(auto, using(std::proofs::lemmas::Bool::Decides::nat_tests))]
 fn hex_digit(d: u16) -> u8
     requires { d < 16 }
     ensures { result ≡ hex_digit d }
@@ -42,19 +90,4 @@ fn hex_digit(d: u16) -> u8
         return b'0' + d as u8;
     }
     b'A' - 10 + d as u8
-}
-
-// Writes a number of 16 bits as four hexadecimal digits, capitals.
-pub fn put_hex(out: &mut [u8], at: usize, n: u16) -> usize
-    requires { at + length (hex n) < 2 ^ 64 }
-    ensures place { result ≡ at + length (hex n) }
-    ensures bytes { out.new ≡ write_at at (hex n) out.old }
-{
-    let digits = [
-        hex_digit(n / 4096),
-        hex_digit(n / 256 % 16),
-        hex_digit(n / 16 % 16),
-        hex_digit(n % 16),
-    ];
-    put(out, at, &digits)
 }

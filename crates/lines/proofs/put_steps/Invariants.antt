@@ -1,10 +1,14 @@
--- `lines::put_steps` meets its contract. The invariant: the lines still to come, written to the buffer as it is, give all lines written.
-use Prim.Native.Nat.{◌-◌}
-use Rattle.lines.proofs.StepsLaws.{StepsAhead}
+-- The steps so far are written: with the lines of those still to come, the lines of all are.
+use Rattle.std.proofs.Common.{◌≡◌}
+use Rattle.std.specs.Slice.Iter.{chunks_exact_rest, chunks_exact_size}
+use Rattle.text.specs.declared.Writer.{Writer}
+use Rattle.text.specs.Writing.{Wrote}
+use Rattle.lines.specs.Lines.{step_lines}
 use Rattle.lines.proofs.put_steps.Given as goal
 
-abbrev pub invariant-loop-i : goal.invariant-loop-i
-invariant-loop-i l = StepsAhead l.at l.steps l.initial.out l.place l.i l.out
-
-abbrev pub decreases-loop-i : goal.decreases-loop-i
-decreases-loop-i l = l.i-end - l.i
+abbrev pub invariant-loop-step : goal.invariant-loop-step
+invariant-loop-step l =
+    record {
+      pairs : chunks_exact_size l.step-iterator ≡ 2;
+      wrote : (after : Writer) → Wrote (step_lines (chunks_exact_rest l.step-iterator)) l.w after → Wrote (step_lines l.steps) l.initial.w after;
+    }

@@ -3,7 +3,7 @@ use mathlib.Core.Path.{sym, ◌∙◌}
 use native.Mathlib.Omega.{arith}
 use Rattle.tables.proofs.CheckLaws.{handed_on}
 use Rattle.questions.proofs.QuestionLaws.{asked_passes}
-use Rattle.report.proofs.ReportLaws.{text_refused, refused_page, answered_page}
+use Rattle.report.proofs.ReportLaws.{text_refused, answered_page}
 use Rattle.rules.proofs.ClauseLaws.{as_text_whole}
 use Rattle.report.proofs.pages.compose.Goals as goal
 
@@ -15,7 +15,7 @@ find-some-requires c = (asked_passes _ _ (sym c.ask.ensures ∙ c.in_ok-question
 
 pub returns-in_err-question : goal.returns-in_err-question
 returns-in_err-question c =
-    rw (handed_on _ _ c.from_residual.ensures.1) (as_text_whole (refused_page _ _ _ _ (text_refused _ _ (sym c.ask.ensures ∙ c.in_err-question.was))))
+    rw (handed_on _ _ c.from_residual.ensures.1) (record { text = sym (text_refused _ _ (sym c.ask.ensures ∙ c.in_err-question.was)); whole = tt })
 
 pub returns : goal.returns
 returns c =
