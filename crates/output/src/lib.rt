@@ -1,74 +1,37 @@
-// Lines of decimal numbers on standard output, for a program that answers questions. A line is put together in a buffer, which is written out where it
-// is nearly full and at the line's end. Nothing is returned and nothing is changed; what is written no contract states, and the case files hold it.
-// Relies on `text` for numbers, and on `io`.
+// Lines of decimal numbers on standard output, for a program that answers questions. A line is written out part by part. Nothing is returned and nothing is
+// changed; what is written no contract states, and the case files hold it. Relies on `text` for numbers, and on `io`.
 #![tactic(auto)]
 
-ghost use Rattle.std.specs.Prelude.{◌<◌};
+use text::Writer;
 
-const BUFFER: usize = 8192;
+// A part of a line has at most so many numbers.
+const PART: usize = 1024;
 
-// From this place on a buffer is nearly full: a space and a number still have room.
-const NEARLY_FULL: usize = 8171;
+// Room for a part: a number and the space before it take at most 21 bytes.
+const ROOM: usize = 21 * PART;
 
-// Writes out the first bytes of a buffer.
-fn write_out(out: &[u8], count: usize) {
-    if count <= out.len() {
-        io::write_all(1, &out[..count]);
+// Numbers one after the other, with a space before each but the first of a line.
+fn put_part<T: Copy + Into<usize>>(part: &[T], begins: bool) {
+    let mut out = [0u8; ROOM];
+    let mut writer = Writer::new(&mut out);
+    for (i, n) in part.iter().enumerate() {
+        if 0 < i || !begins {
+            writer.put(b" ");
+        }
+        writer.put_decimal((*n).into());
+    }
+    let count = writer.at();
+    if let Some(text) = out.get(..count) {
+        io::write_all(1, text);
     }
 }
 
-// A place with room for a space and a number.
-fn place(out: &[u8], at: usize) -> usize
-    ensures { result < 8171 }
-{
-    if at < NEARLY_FULL {
-        return at;
+// A line of numbers.
+pub fn numbers<T: Copy + Into<usize>>(slice: &[T]) {
+    for (i, part) in slice.chunks(PART).enumerate() {
+        put_part(part, i == 0);
     }
-    write_out(out, at);
-    0
-}
-
-// The space before number i of a line.
-fn put_space(out: &mut [u8], at: usize, i: usize) -> usize
-    requires { at < 8171 }
-    ensures { result < 8172 }
-{
-    if 0 < i && at < out.len() {
-        out[at] = b' ';
-        return at + 1;
-    }
-    at
-}
-
-// Number i of a line, from a place on; returns the place behind it.
-fn put_item(out: &mut [u8], at: usize, i: usize, n: usize) -> usize {
-    let start = put_space(out, place(out, at), i);
-    text::put_decimal(out, start, n)
-}
-
-fn end_line(out: &mut [u8], at: usize) {
-    if at < out.len() {
-        out[at] = b'\n';
-        write_out(out, at + 1);
-    }
-}
-
-pub fn entries(slice: &[u16]) {
-    let mut out = [0u8; BUFFER];
-    let mut at: usize = 0;
-    for i in 0..slice.len() {
-        at = put_item(&mut out, at, i, slice[i] as usize);
-    }
-    end_line(&mut out, at);
-}
-
-pub fn bytes(slice: &[u8]) {
-    let mut out = [0u8; BUFFER];
-    let mut at: usize = 0;
-    for i in 0..slice.len() {
-        at = put_item(&mut out, at, i, slice[i] as usize);
-    }
-    end_line(&mut out, at);
+    io::write_all(1, b"\n");
 }
 
 // The line that ends an answer.
