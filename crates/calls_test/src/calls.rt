@@ -1,6 +1,6 @@
 // Each call, and its answer: what it returns, and what the lent slices hold after it.
 use crate::lent;
-use input::{Call, Operation};
+use input::Call;
 use rules::{Limits, Row};
 use tables::{Kind, Refusal};
 
@@ -27,39 +27,43 @@ pub(crate) fn body(call: Call) {
     output::numbers(tables::body(call.file, table));
 }
 
-fn decide(call: Call, marks: &mut [u16]) {
-    let found = checker::decide(call.file, call.question, call.mode, marks);
-    tell(found.map(|it| (it.yes as usize, it.kept as usize, it.rounds as usize)));
+pub(crate) fn moves(call: Call) {
+    lent::entries(
+        call,
+        |out, _| tell_count(checker::moves(call.file, call.question, out)),
+    );
 }
 
-fn join(call: Call, out: &mut [u8]) {
+pub(crate) fn decide(call: Call) {
+    lent::entries(call, |marks, _| {
+        let found = checker::decide(call.file, call.question, call.mode, marks);
+        tell(found.map(|it| (it.yes as usize, it.kept as usize, it.rounds as usize)));
+    });
+}
+
+pub(crate) fn run(call: Call) {
+    lent::entries(call, |marks, steps| {
+        tell_count(checker::run(call.file, call.question, call.mode, marks, steps));
+    });
+}
+
+pub(crate) fn join(call: Call) {
     let first = call.question.demand.table;
     let second = call.question.supply.table;
-    tell(checker::join(call.file, first, second, out).map(|size| (size.states, size.rows, 0)));
+    lent::bytes(call, |out| {
+        tell(checker::join(call.file, first, second, out).map(|size| (size.states, size.rows, 0)));
+    });
 }
 
-// The calls that are lent 16-bit numbers.
-pub(crate) fn on_entries(call: Call, first: &mut [u16], second: &mut [u16]) {
-    lent::fill(first);
-    lent::fill(second);
-    match call.operation {
-        Operation::Moves => tell_count(checker::moves(call.file, call.question, first)),
-        Operation::Decide => decide(call, first),
-        _ => tell_count(checker::run(call.file, call.question, call.mode, first, second)),
-    }
-    output::numbers(first);
-    output::numbers(second);
+pub(crate) fn report(call: Call) {
+    lent::bytes(call, |out| tell_count(report::write(call.file, out)));
 }
 
-// The calls that are lent bytes.
-pub(crate) fn on_bytes(call: Call, bytes: &mut [u8]) {
-    lent::fill_bytes(bytes);
-    match call.operation {
-        Operation::Join => join(call, bytes),
-        Operation::Report => tell_count(report::write(call.file, bytes)),
-        _ => tell_count(checker::graph(call.file, call.question, bytes)),
-    }
-    output::numbers(bytes);
+pub(crate) fn graph(call: Call) {
+    lent::bytes(
+        call,
+        |out| tell_count(checker::graph(call.file, call.question, out)),
+    );
 }
 
 // What the readers of contents entries and of rows find, with the file taken as contents and as a body, and the body that the entry tells of.

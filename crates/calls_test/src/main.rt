@@ -30,10 +30,14 @@ fn answer(call: Call) {
     match call.operation {
         Operation::Open => calls::open(call),
         Operation::Body => calls::body(call),
-        Operation::Moves | Operation::Decide | Operation::Run => lent::lend_entries(call),
-        Operation::Join | Operation::Report | Operation::Graph => lent::lend_bytes(call),
+        Operation::Moves => calls::moves(call),
+        Operation::Decide => calls::decide(call),
+        Operation::Run => calls::run(call),
+        Operation::Join => calls::join(call),
+        Operation::Report => calls::report(call),
         Operation::Readers => calls::readers(call),
         Operation::Constants => calls::constants(),
+        Operation::Graph => calls::graph(call),
     }
 }
 

@@ -10,7 +10,7 @@ use questions::{Question, Side};
 // The bytes of a head.
 const HEAD: usize = 64;
 
-// A call that is asked for, with all that it takes.
+// A call that is asked for, with what it takes: mode, tables and states, the lengths of the slices that it is lent, and the file.
 #[derive(Clone, Copy)]
 pub struct Call<'a> {
     pub operation: Operation,
