@@ -1,47 +1,48 @@
-// The slices that are lent: as long as asked for, and what they hold before a call.
-use crate::calls;
+// The slices that are lent to a call: as long as asked for, what they hold before it, and the lines of what they hold afterwards.
+use input::Call;
 
 // How many entries a slice can have.
 const ROOM: usize = 65535;
 
 // Entry i holds 50,000 and i modulo 499.
-pub(crate) fn fill(entries: &mut [u16]) {
-    for i in 0..entries.len() {
-        entries[i] = 50000 + (i % 499) as u16;
+fn fill(entries: &mut [u16]) {
+    for (i, entry) in entries.iter_mut().enumerate() {
+        *entry = 50000 + (i % 499) as u16;
     }
 }
 
 // Byte i holds i modulo 251.
-pub(crate) fn fill_bytes(bytes: &mut [u8]) {
-    for i in 0..bytes.len() {
-        bytes[i] = (i % 251) as u8;
+fn fill_bytes(bytes: &mut [u8]) {
+    for (i, byte) in bytes.iter_mut().enumerate() {
+        *byte = (i % 251) as u8;
     }
 }
 
-fn cut_entries(asked: &[u8], first: &mut [u16], second: &mut [u16]) {
-    let length = input::number(asked, 6);
-    let second_length = input::number(asked, 7);
-    if length <= first.len() {
-        if second_length <= second.len() {
-            calls::on_entries(asked, &mut first[..length], &mut second[..second_length]);
-        }
-    }
-}
-
-pub(crate) fn lend_entries(asked: &[u8]) {
+// Two slices of 16-bit numbers, lent to what a call does.
+pub(crate) fn entries<F: FnOnce(&mut [u16], &mut [u16]) + Drop>(call: Call, act: F)
+    requires { F.IsAlwaysCallable act }
+{
     let mut first = [0u16; ROOM];
     let mut second = [0u16; ROOM];
-    cut_entries(asked, &mut first, &mut second);
-}
-
-fn cut_bytes(asked: &[u8], bytes: &mut [u8]) {
-    let length = input::number(asked, 6);
-    if length <= bytes.len() {
-        calls::on_bytes(asked, &mut bytes[..length]);
+    let lent = first.get_mut(..call.length);
+    let second_lent = second.get_mut(..call.second_length);
+    if let (Some(first), Some(second)) = (lent, second_lent) {
+        fill(first);
+        fill(second);
+        act(first, second);
+        output::numbers(first);
+        output::numbers(second);
     }
 }
 
-pub(crate) fn lend_bytes(asked: &[u8]) {
-    let mut bytes = [0u8; ROOM];
-    cut_bytes(asked, &mut bytes);
+// A slice of bytes, lent to what a call does.
+pub(crate) fn bytes<F: FnOnce(&mut [u8]) + Drop>(call: Call, act: F)
+    requires { F.IsAlwaysCallable act }
+{
+    let mut room = [0u8; ROOM];
+    if let Some(bytes) = room.get_mut(..call.length) {
+        fill_bytes(bytes);
+        act(bytes);
+        output::numbers(bytes);
+    }
 }

@@ -18,52 +18,47 @@
 mod calls;
 mod lent;
 
+use input::{Call, Operation};
+
 // The longest question.
 const LONGEST: usize = 65535;
 
 // More questions than are ever asked.
-const QUESTIONS: u64 = 18446744073709551615;
+const QUESTIONS: u64 = u64::MAX;
 
-fn answer(asked: &[u8]) {
-    let operation = input::operation(asked);
-    match operation {
-        0 => calls::open(asked),
-        1 => calls::body(asked),
-        2..=4 => lent::lend_entries(asked),
-        5..=6 => lent::lend_bytes(asked),
-        7 => calls::readers(asked),
-        8 => calls::constants(),
-        9 => lent::lend_bytes(asked),
-        _ => {}
+fn answer(call: Call) {
+    match call.operation {
+        Operation::Open => calls::open(call),
+        Operation::Body => calls::body(call),
+        Operation::Moves => calls::moves(call),
+        Operation::Decide => calls::decide(call),
+        Operation::Run => calls::run(call),
+        Operation::Join => calls::join(call),
+        Operation::Report => calls::report(call),
+        Operation::Readers => calls::readers(call),
+        Operation::Constants => calls::constants(),
+        Operation::Graph => calls::graph(call),
     }
 }
 
-// Reads a question that fills the slice, and answers it; false where the input ends before.
-fn answer_one(asked: &mut [u8]) -> bool {
-    if io::read_full(0, asked) < asked.len() {
-        return false;
-    }
-    answer(asked);
-    output::end_answer();
-    true
-}
-
-fn answer_within(room: &mut [u8], length: usize) -> bool {
-    if length <= room.len() {
-        return answer_one(&mut room[..length]);
-    }
-    false
-}
-
-// Reads and answers the next question; false where there is none.
-fn answer_next() -> bool {
+// Reads and answers the next question; None where there is none.
+fn answer_next() -> Option<()> {
+    let length = input::next_length()?;
     let mut room = [0u8; LONGEST];
-    answer_within(&mut room, input::next_length())
+    let asked = room.get_mut(..length)?;
+    if io::read_full(0, asked) < length {
+        return None;
+    }
+    if let Some(call) = Call::read(asked) {
+        answer(call);
+    }
+    output::end_answer();
+    Some(())
 }
 
 fn main() {
     for _ in 0..QUESTIONS {
-        if !answer_next() {
+        if answer_next().is_none() {
             break;
         }
     }

@@ -1,80 +1,67 @@
-// Questions on standard input, for a program that answers them: the length in front of a question, and its parts, the numbers of its head and the
-// file. What is read no contract states, and the case files hold it. Relies on `questions` for what a question about a pair is, and on `io`.
+// Questions on standard input, for a program that answers them: the length in front of a question, and the call that its head names, with the file. What
+// is read no contract states, and the case files hold it. Relies on `questions` for what a question about a pair is, and on `io`.
 #![tactic(auto)]
 
-ghost use Rattle.std.specs.Prelude.{◌<◌};
+mod operations;
 
+pub use operations::{Operation, UnknownOperation};
 use questions::{Question, Side};
-
-// In place of a length, where the input has ended.
-const END: usize = 65536;
 
 // The bytes of a head.
 const HEAD: usize = 64;
 
-// In place of an operation, where there is no whole head.
-const NONE: usize = 10;
+// A call that is asked for, with what it takes: mode, tables and states, the lengths of the slices that it is lent, and the file.
+#[derive(Clone, Copy)]
+pub struct Call<'a> {
+    pub operation: Operation,
+    pub mode: usize,
+    pub question: Question,
+    pub length: usize,
+    pub second_length: usize,
+    pub file: &'a [u8],
+}
 
-// The length of the next question.
-pub fn next_length() -> usize {
+// The length of the next question; None where the input ends.
+pub fn next_length() -> Option<usize> {
     let mut length = [0u8; 8];
     if io::read_full(0, &mut length) < 8 {
-        return END;
+        return None;
     }
-    number(&length, 0)
+    Some(usize::from_le_bytes(length))
 }
 
-// A byte; 0 past the end.
-fn byte(s: &[u8], at: usize) -> usize
-    ensures { result < 256 }
-{
-    if at < s.len() {
-        return s[at] as usize;
+impl<'a> Call<'a> {
+    // The call that a question names; None where the question is shorter than a head, or for another operation.
+    pub fn read(asked: &'a [u8]) -> Option<Self> {
+        let (head, file) = asked.split_at_checked(HEAD)?;
+        let [
+            operation,
+            mode,
+            table,
+            state,
+            second_table,
+            second_state,
+            length,
+            second_length,
+        ] = head.as_chunks::<8>().0
+        else {
+            return None;
+        };
+        let number = |bytes: &[u8; 8]| usize::from_le_bytes(*bytes);
+        let side = |table: &[u8; 8], state: &[u8; 8]| Side {
+            table: number(table),
+            state: number(state),
+        };
+        Some(Call {
+            operation: Operation::try_from(number(operation)).ok()?,
+            mode: number(mode),
+            question: Question {
+                demand: side(table, state),
+                supply: side(second_table, second_state),
+            },
+            length: number(length),
+            second_length: number(second_length),
+            file,
+        })
     }
-    0
-}
-
-// The number in four bytes.
-fn four(s: &[u8], at: usize) -> usize
-    requires { at < 100 }
-    ensures { result < 4294967296 }
-{
-    let low = byte(s, at) + 256 * byte(s, at + 1);
-    low + 65536 * byte(s, at + 2) + 16777216 * byte(s, at + 3)
-}
-
-// Number i of a head.
-pub fn number(asked: &[u8], i: usize) -> usize
-    requires { i < 8 }
-{
-    four(asked, 8 * i) + 4294967296 * four(asked, 8 * i + 4)
-}
-
-pub fn operation(asked: &[u8]) -> usize {
-    if HEAD <= asked.len() {
-        return number(asked, 0);
-    }
-    NONE
-}
-
-// The two tables and their states.
-pub fn question(asked: &[u8]) -> Question {
-    Question {
-        demand: Side {
-            table: number(asked, 2),
-            state: number(asked, 3),
-        },
-        supply: Side {
-            table: number(asked, 4),
-            state: number(asked, 5),
-        },
-    }
-}
-
-// The file behind the head.
-pub fn file(asked: &[u8]) -> &[u8] {
-    if HEAD <= asked.len() {
-        return &asked[HEAD..];
-    }
-    asked
 }

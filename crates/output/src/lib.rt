@@ -1,48 +1,37 @@
-// Lines of decimal numbers on standard output, for a program that answers questions. A line is put together in a buffer, which is written out where it
-// is nearly full and at the line's end. Nothing is returned and nothing is changed; what is written no contract states, and the case files hold it.
-// Relies on `text` for the writer, and on `io`.
+// Lines of decimal numbers on standard output, for a program that answers questions. A line is written out part by part. Nothing is returned and nothing is
+// changed; what is written no contract states, and the case files hold it. Relies on `text` for numbers, and on `io`.
 #![tactic(auto)]
 
 use text::Writer;
 
-const BUFFER: usize = 8192;
+// A part of a line has at most so many numbers.
+const PART: usize = 1024;
 
-// From this place on a buffer is nearly full: a space and a number still have room.
-const NEARLY_FULL: usize = 8171;
+// Room for a part: a number and the space before it take at most 21 bytes.
+const ROOM: usize = 21 * PART;
 
-// Writes out what is in the buffer, which is then empty.
-fn write_out(w: &mut Writer) {
-    io::write_all(1, w.text());
-    w.clear();
-}
-
-// Number i of a line.
-fn put_item(w: &mut Writer, i: usize, n: usize) {
-    if NEARLY_FULL <= w.at() {
-        write_out(w);
+// Numbers one after the other, with a space before each but the first of a line.
+fn put_part<T: Copy + Into<usize>>(part: &[T], begins: bool) {
+    let mut out = [0u8; ROOM];
+    let mut writer = Writer::new(&mut out);
+    for (i, n) in part.iter().enumerate() {
+        if 0 < i || !begins {
+            writer.put(b" ");
+        }
+        writer.put_decimal((*n).into());
     }
-    if 0 < i {
-        w.put(b" ");
+    let count = writer.at();
+    if let Some(text) = out.get(..count) {
+        io::write_all(1, text);
     }
-    w.put_decimal(n);
 }
 
-fn put_line<T: Copy + Into<usize>>(numbers: &[T]) {
-    let mut out = [0u8; BUFFER];
-    let mut w = Writer::new(&mut out);
-    for (i, n) in numbers.iter().enumerate() {
-        put_item(&mut w, i, (*n).into());
+// A line of numbers.
+pub fn numbers<T: Copy + Into<usize>>(slice: &[T]) {
+    for (i, part) in slice.chunks(PART).enumerate() {
+        put_part(part, i == 0);
     }
-    w.put(b"\n");
-    write_out(&mut w);
-}
-
-pub fn entries(slice: &[u16]) {
-    put_line(slice);
-}
-
-pub fn bytes(slice: &[u8]) {
-    put_line(slice);
+    io::write_all(1, b"\n");
 }
 
 // The line that ends an answer.
