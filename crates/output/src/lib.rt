@@ -20,10 +20,7 @@ fn put_part<T: Copy + Into<usize>>(part: &[T], begins: bool) {
         }
         writer.put_decimal((*n).into());
     }
-    let count = writer.at();
-    if let Some(text) = out.get(..count) {
-        io::write_all(1, text);
-    }
+    io::write_all(1, writer.text());
 }
 
 // A line of numbers.

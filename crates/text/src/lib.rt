@@ -38,15 +38,6 @@ impl<'a> Writer<'a> {
         &self.out[..self.at.min(self.out.len())]
     }
 
-    // Begins anew at the buffer's first byte.
-    pub fn clear(&mut self)
-        ensures same_reference { self.new.out.ghost_name ≡ self.old.out.ghost_name }
-        ensures bytes { self.new.out.now ≡ self.old.out.now }
-        ensures at { self.new.at ≡ 0 }
-    {
-        self.at = 0;
-    }
-
     // Writes the bytes of a piece.
     pub fn put(&mut self, piece: &[u8])
         ensures { Wrote piece.now self.old self.new }
