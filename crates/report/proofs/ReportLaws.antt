@@ -1,5 +1,5 @@
 -- The text by what is asked, how long it can be, and the composed text. Relies on the laws of lines, of `questions` and of decisions.
-use Prim.Native.Nat.{ℕ, ◌+◌, ◌*◌, ◌^◌, ◌≤◌, ◌<◌}
+use Prim.Native.Nat.{ℕ, ◌*◌, ◌^◌, ◌≤◌, ◌<◌}
 use mathlib.Core.Path.{◌≡◌, refl, sym, ap, ◌∙◌}
 use mathlib.Core.Bool.{Bool, true, false}
 use mathlib.Core.List.{List, [], ◌∷◌, ◌++◌, flat_map}
@@ -30,13 +30,12 @@ use Rattle.questions.specs.Pairs.{demand_of, supply_of}
 use Rattle.questions.specs.Modes.{mode_of}
 use Rattle.questions.specs.Questions.{question_of, program_checks, asked_of}
 use Rattle.questions.proofs.QuestionLaws.{question_asked, asked_refused, asked_question, asked_passes}
-use Rattle.text.proofs.TextLaws.{length-decimal}
-use Rattle.lines.specs.Lines.{file_line, mode_word, verdict_word, verdict_line, step_line, step_lines}
+use Rattle.lines.specs.Lines.{file_line, verdict_line, step_line, step_lines}
 use Rattle.report.specs.Report.{refusal_line, asked_line, mode_text, decision_text, text_after, text, room_fault, report_answer, report_bytes}
 use Rattle.report.specs.declared.pages.Found.{Found}
 use Rattle.report.specs.declared.pages.Outcome.{Outcome}
 use Rattle.report.specs.Pages.{found_text, found_of, page_text, StepsIn}
-use Rattle.lines.proofs.LineLaws.{refused_short, length-file, length-start, length-verdict, length-step, length-row, four}
+use Rattle.lines.proofs.LineLaws.{refused_short, file_short, start_short, verdict_short, step_short}
 use Rattle.lines.proofs.StepsLaws.{slots_lines}
 use Rattle.report.proofs.DecisionLaws.{few_pairs}
 
@@ -48,13 +47,6 @@ text_refused s r e = rw (asked_refused s r e) refl
 
 -- ---- how long the text can be
 
-word_fits : (mode : Mode) (b : Bool) → length (mode_word mode) + length (verdict_word b) ≤ 11
-unfolding verdict_word
-word_fits Full true = omega arith
-word_fits Full false = omega arith
-word_fits Partial true = omega arith
-word_fits Partial false = omega arith
-
 steps_fit : (cs : List Candidate) → length (flat_map (λ c. step_line c.supply.row c.task.row) cs) ≤ 47 * length cs
 unfolding flat_map
 steps_fit [] = omega arith
@@ -63,9 +55,7 @@ steps_fit (c ∷ cs) =
     omega (
       arith,
       length-append (step_line c.supply.row c.task.row) (flat_map (λ c. step_line c.supply.row c.task.row) cs),
-      length-step c.supply.row c.task.row,
-      length-row c.supply.row,
-      length-row c.task.row,
+      step_short c.supply.row c.task.row,
     )
 
 mode_fits : (mode : Mode) (D S : Machine) (t w : ℕ) → D.n * S.n ≤ 4096 → length (mode_text mode D S t w) ≤ 192578
@@ -77,10 +67,7 @@ mode_fits mode D S t w h =
     omega (
       arith,
       length-append (verdict_line mode (eqb m 0) (rounds mode D S) (kept_count mode D S)) (flat_map (λ c. step_line c.supply.row c.task.row) cs),
-      length-verdict mode (eqb m 0) (rounds mode D S) (kept_count mode D S),
-      word_fits mode (eqb m 0),
-      length-decimal (rounds mode D S),
-      length-decimal (kept_count mode D S),
+      verdict_short mode (eqb m 0) (rounds mode D S) (kept_count mode D S),
       steps_fit cs,
       length-slots mode D S m t w,
       few,
@@ -93,20 +80,8 @@ text_after_fits s (Ok u) e =
     let few = few_pairs s q (question_asked s e) in
     let every = mode_fits Full (demand_of s q) (supply_of s q) q.demand.state q.supply.state few in
     let some = mode_fits Partial (demand_of s q) (supply_of s q) q.demand.state q.supply.state few in
-    omega (
-      arith,
-      four (file_line (length s) (tables_of s)) (asked_line q) (decision_text Full s q) (decision_text Partial s q),
-      length-file (length s) (tables_of s),
-      length-decimal (length s),
-      length-decimal (tables_of s),
-      length-start q.demand.table q.supply.table q.demand.state q.supply.state,
-      length-decimal q.demand.table,
-      length-decimal q.supply.table,
-      length-decimal q.demand.state,
-      length-decimal q.supply.state,
-      every,
-      some,
-    )
+    simp length-append
+    (omega (arith, file_short (length s) (tables_of s), start_short q.demand.table q.supply.table q.demand.state q.supply.state, every, some))
 
 -- every text fits 385,321 bytes
 pub text_fits : (s : List ℕ) → length (text s) ≤ 385321
