@@ -3,7 +3,7 @@
 // limit, and on `io`. What it prints is held to the file `stdout` beside this folder, for the file `stdin`.
 #![tactic(auto)]
 
-ghost use Rattle.std.specs.Prelude.{◌≤◌, ◌≡◌, length};
+ghost use Rattle.std.specs.Prelude.{◌≡◌, length};
 ghost use Rattle.rules.specs.Slices.{overwrite};
 ghost use Rattle.aut.specs.Aut.{refusal_text, graph_printed, aut_text, Printed};
 
@@ -17,8 +17,7 @@ use text::Writer;
 // There is room for texts of 4 MiB.
 const ROOM: usize = 4194304;
 
-fn put_refusal(refusal: Refusal, out: &mut [u8]) -> usize
-    requires { 53 ≤ length out.old }
+fn put_refusal(refusal: Refusal, out: &mut [u8; ROOM]) -> usize
     ensures count { result ≡ length (refusal_text refusal) }
     ensures bytes { out.new ≡ overwrite (refusal_text refusal) out.old }
 {
@@ -27,8 +26,7 @@ fn put_refusal(refusal: Refusal, out: &mut [u8]) -> usize
     w.at()
 }
 
-fn put_graph(file: &[u8], question: Question, out: &mut [u8]) -> usize
-    requires { 53 ≤ length out.old }
+fn put_graph(file: &[u8], question: Question, out: &mut [u8; ROOM]) -> usize
     ensures { Printed (graph_printed file.now question (length out.old)) out.old result out.new }
 {
     match checker::graph(file, question, out) {
@@ -38,8 +36,7 @@ fn put_graph(file: &[u8], question: Question, out: &mut [u8]) -> usize
 }
 
 // Makes the text for a file in the buffer, and returns its length.
-fn put_text(file: &[u8], out: &mut [u8]) -> usize
-    requires { 53 ≤ length out.old }
+fn put_text(file: &[u8], out: &mut [u8; ROOM]) -> usize
     ensures { Printed (aut_text file.now (length out.old)) out.old result out.new }
 {
     match ask(file) {
@@ -49,8 +46,7 @@ fn put_text(file: &[u8], out: &mut [u8]) -> usize
 }
 
 // Makes the text in the buffer, and has all of it written out. Returns its length.
-fn print(file: &[u8], out: &mut [u8]) -> usize
-    requires { 53 ≤ length out.old }
+fn print(file: &[u8], out: &mut [u8; ROOM]) -> usize
     ensures { Printed (aut_text file.now (length out.old)) out.old result out.new }
 {
     let count = put_text(file, out);
