@@ -11,7 +11,7 @@ fn fill(entries: &mut [u16]) {
     }
 }
 
-// Byte i holds i modulo 251.
+// Byte i holds i modulo 251: another rule than that of entries, so that it is another function.
 fn fill_bytes(bytes: &mut [u8]) {
     for (i, byte) in bytes.iter_mut().enumerate() {
         *byte = (i % 251) as u8;

@@ -23,7 +23,7 @@ use input::{Call, Operation};
 // The longest question.
 const LONGEST: usize = 65535;
 
-// More questions than are ever asked.
+// More questions than are ever asked: a loop has to end.
 const QUESTIONS: u64 = u64::MAX;
 
 fn answer(call: Call) {

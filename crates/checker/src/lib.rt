@@ -58,7 +58,8 @@ pub fn graph(file: &[u8], question: Question, out: &mut [u8]) -> Result<usize, R
     pairs::write_graph(file, question, out)
 }
 
-// Decide: the marks of all pairs of states, by mode 0 (full) or 1 (partial), and what they say of the start pair.
+// Decide: the marks of all pairs of states, by mode 0 (full) or 1 (partial), and what they say of the start pair. Modes are numbers here, since a caller
+// may pass any: 15 turns back another.
 pub fn decide(
     file: &[u8],
     question: Question,

@@ -53,7 +53,7 @@ pub(crate) fn write_graph(file: &[u8], question: Question, out: &mut [u8]) -> Re
     Ok(extent.bytes)
 }
 
-// Writes the marks of all pairs of states where there is room, and reads the start pair's.
+// Writes the marks of all pairs of states where there is room, and reads the start pair's. The mode is the number that the call's answer is defined of.
 pub(crate) fn write_marks(
     file: &[u8],
     question: Question,

@@ -44,6 +44,7 @@ pub fn put_start(w: &mut Writer, demand: usize, supply: usize, t: usize, s: usiz
     w.put(b"\n");
 }
 
+// The word of a mode. What a `Display` writes is promised of a `String`, and there is no heap here.
 fn put_mode_word(w: &mut Writer, mode: Mode)
     ensures { Wrote (mode_word mode) w.old w.new }
 {

@@ -17,7 +17,7 @@ pub fn check_decision(file: &[u8], question: Question, mode: usize) -> Result<()
     Ok(())
 }
 
-// The mode with a number: 0 full, 1 partial.
+// The mode with a number: 0 full, 1 partial. It has an answer for every number, as a `TryFrom` would not: nothing turns back a number that is checked.
 pub fn mode_of(number: usize) -> Mode
     ensures { result ≡ mode_of number }
 {

@@ -36,7 +36,7 @@ pub(crate) struct Outcome {
     pub partial: Found,
 }
 
-// What a mode finds, and in `steps` the run that shows a no. Nothing turns back a call here.
+// What a mode finds, by the number that the calls take, and in `steps` the run that shows a no. Nothing turns back a call here.
 fn find(file: &[u8], question: Question, mode: usize, steps: &mut [u16]) -> Found
     requires { (pair_checks file.now question ≡ Ok tt) × (mode ≤ 1) × (8192 ≤ length steps.old) }
     ensures found { result ≡ found_at (mode_of mode) file.now question }

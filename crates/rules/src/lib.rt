@@ -55,7 +55,7 @@ impl Row {
         Row { from, target, set }
     }
 
-    // Whether `next` stands above this row: by from, then set, then target.
+    // Whether `next` stands above this row: by from, then set, then target. The derived order says the same; this is the name of document 01's word.
     pub fn rises_to(self, next: Row) -> bool
         ensures { result ≡ rises self next }
     {
@@ -85,7 +85,7 @@ impl Move {
         Move::new(Row::IDLE, 0, Row::FIN)
     }
 
-    // What stands for a move where there is none. Its set and its target mean nothing.
+    // What stands for a move where there is none, as a row's number does in a step of Run. Its set and its target mean nothing.
     pub fn none() -> Self
         ensures { result ≡ no_move }
     {

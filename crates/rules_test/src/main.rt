@@ -32,6 +32,7 @@ fn sets(requested: u16, granted: u16) {
     io::write_all(1, b"\n");
 }
 
+// Writes a row's numbers with a word before them: what is held is this test's file, and no other program prints a row.
 fn write_row(word: &[u8], row: Row) {
     field(word, row.from as u16);
     field(b"", row.target as u16);

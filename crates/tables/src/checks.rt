@@ -73,7 +73,7 @@ fn check_length(file: &[u8], end: usize) -> Result<(), Refusal>
     Ok(())
 }
 
-// The contents of a file of k tables, and its length.
+// The contents of a file of k tables, and its length. The entries are counted: where one starts goes by its number, and a fault ends the loop by `?`.
 fn check_contents(file: &[u8], k: usize) -> Result<(), Refusal>
     requires { (k ≤ 16) × (k ≡ tables_of file.now) }
     ensures { result ≡ (scan (entry_fault file.now) k then length_fault file.now) }

@@ -13,7 +13,7 @@ pub enum Kind {
 pub struct UnknownKind {}
 
 impl Kind {
-    // The byte that stands for the kind.
+    // The byte that stands for the kind. A method says which byte it is, where `u8::from` would not.
     pub fn code(self) -> u8
         ensures { result ≡ code_of self }
     {

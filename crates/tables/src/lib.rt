@@ -39,6 +39,7 @@ pub enum Reason {
 }
 
 impl Reason {
+    // The number that a caller is told. A method says which number it is, where `u8::from` would not.
     pub fn number(self) -> u8
         ensures { result ≡ number_of self }
     {

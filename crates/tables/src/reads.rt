@@ -6,7 +6,7 @@ ghost use Rattle.tables.specs.Tables.{table_of};
 
 use rules::Row;
 
-// A contents entry as the file has it: `kind` is any byte, `states` is document 01's n, and `rows` its m.
+// A contents entry as the file has it: `kind` is any byte, since Open tells of each whether it is a kind's; `states` is document 01's n, and `rows` its m.
 #[derive(Clone, Copy)]
 pub struct Entry {
     pub kind: u8,
@@ -30,7 +30,7 @@ fn byte(bytes: &[u8], at: usize) -> u8
     bytes.get(at).copied().unwrap_or(0)
 }
 
-// The little-endian number of two bytes.
+// The little-endian number of two bytes, of which the second may be past the end.
 fn word(bytes: &[u8], at: usize) -> u16
     ensures { result ≡ word_at bytes.now at }
 {
