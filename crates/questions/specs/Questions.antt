@@ -17,7 +17,7 @@ unfoldable pub first_of : List ℕ → ℕ → ℕ → ℕ
 first_of s kind zero = 0
 first_of s kind (suc i) = cond (ltb (first_of s kind i) i) (first_of s kind i) (cond (eqb (entry_of s i).kind kind) i (suc i))
 
--- the same as a search, with none where none is (`found_first`)
+-- the same as a search, with none where none is (`search_some`, `search_none`)
 abbrev pub first_found : List ℕ → Kind → ℕ → Option ℕ
 first_found s kind k = find (λ i. eqb (entry_of s i).kind (code_of kind)) (range_with_len 0 k)
 

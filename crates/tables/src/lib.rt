@@ -2,12 +2,12 @@
 // What an accepted file guarantees is `Accepted` in specs, shown in proofs/AcceptedLaws. Relies on `rules` for rows and limits.
 #![tactic(auto)]
 
-ghost use Rattle.std.specs.Prelude.{◌≡◌};
+ghost use Rattle.std.specs.Prelude.{[], ◌≡◌};
 ghost use Rattle.tables.specs.Checks.{refuse};
-ghost use Rattle.tables.specs.Answers.{number_of, counted};
+ghost use Rattle.tables.specs.Answers.{number_of, answer, counted};
 ghost use Rattle.tables.specs.Open.{open_of};
 ghost use Rattle.tables.specs.Part.{PartOf};
-ghost use Rattle.tables.specs.Body.{body_checks, body_span};
+ghost use Rattle.tables.specs.Body.{body_checks, body_answer, body_span};
 
 mod checks;
 mod kinds;
@@ -72,7 +72,8 @@ pub fn open(file: &[u8]) -> Result<usize, Refusal>
 
 // Why a call of `body` on the same inputs is turned back.
 pub fn check_body(file: &[u8], table: usize) -> Result<(), Refusal>
-    ensures { result ≡ body_checks file.now table }
+    ensures checks { result ≡ body_checks file.now table }
+    ensures answer { answer result [] ≡ body_answer file.now table }
 {
     let found = open(file);
     let Ok(k) = found else {
