@@ -2,3 +2,5 @@ pub mod States
 pub mod StateSets
 pub mod Stored
 pub mod Machine
+pub mod Targets
+pub mod Sides
