@@ -1,11 +1,12 @@
 -- Laws of what is written to a slice. Relies on nothing.
-use Prim.Native.Nat.{ℕ, zero, suc, ◌+◌, ◌≤◌, ◌<◌}
-use mathlib.Core.Path.{◌≡◌, refl, ap, ◌∙◌}
+use Prim.Native.Nat.{min, ℕ, zero, suc, ◌+◌, ◌-◌, ◌≤◌, ◌<◌}
+use borrow.Rule.Slice.PartMut.{put_mid}
+use mathlib.Core.Path.{◌≡◌, refl, sym, ap, ◌∙◌}
 use mathlib.Core.List.{List, [], ◌∷◌, ◌++◌}
 use mathlib.Core.Logic.{◌⊎◌, inl, inr}
 use native.Mathlib.Omega.{arith}
-use lib.ListN.{length, get_or, drop, set, length-set, length-append, get_or-append}
-use lib.Seq.{get_or-set_same, get_or-set_other}
+use lib.ListN.{length, get_or, take, drop, set, length-set, length-append, get_or-append}
+use lib.Seq.{take_all, get_or-set_same, get_or-set_other}
 use Rattle.rules.specs.Slices.{write_at, overwrite}
 
 -- a list written after another
@@ -67,3 +68,27 @@ write_at-entry at (x ∷ xs) l zero h r =
 write_at-entry at (x ∷ xs) l (suc i) h r =
     let next : at + suc i ≡ suc at + i = omega arith in
     rw next (write_at-entry (suc at) xs (set l at x) i (omega arith) (omega (arith, length-set l at x)))
+
+-- ---- a part that is copied over
+
+nothing_written : (at : ℕ) (piece : List ℕ) → write_at at piece [] ≡ []
+unfolding write_at
+nothing_written at [] = refl
+nothing_written at (x ∷ xs) = nothing_written (suc at) xs
+
+-- the numbers of the piece that fit take the place of as many
+pub part_written : (at start count : ℕ) (piece l : List ℕ) → start ≡ min at (length l) → count ≡ min (length piece) (length l - start)
+    → put_mid start count l (take count piece) ≡ write_at at piece l
+unfolding write_at
+part_written at start count piece [] e f = let s : start ≡ 0 = omega arith in let k : count ≡ 0 = omega arith in rw (s, k) (sym (nothing_written at piece))
+part_written (suc at) zero count piece (y ∷ l) e f = absurd (omega arith)
+part_written (suc at) (suc start) count piece (y ∷ l) e f = ap (λ (z : List ℕ). y ∷ z) (part_written at start count piece l (omega arith) (omega arith)) ∙ sym (write_at-tail at piece y l)
+part_written zero (suc start) count piece (y ∷ l) e f = absurd (omega arith)
+part_written zero zero count [] (y ∷ l) e f = let k : count ≡ 0 = omega arith in rw k refl
+part_written zero zero zero (x ∷ xs) (y ∷ l) e f = absurd (omega arith)
+part_written zero zero (suc count) (x ∷ xs) (y ∷ l) e f = ap (λ (z : List ℕ). x ∷ z) (part_written 0 0 count xs l (omega arith) (omega arith)) ∙ sym (write_at-tail 0 xs x l)
+
+-- a piece that fits takes the place of as many numbers
+pub piece_written : (at count : ℕ) (piece l : List ℕ) → count ≡ length piece → at + count ≤ length l → put_mid at count l piece ≡ write_at at piece l
+piece_written at count piece l e h =
+    ap (put_mid at count l) (sym (take_all count piece (omega arith))) ∙ part_written at at count piece l (omega arith) (omega arith)
