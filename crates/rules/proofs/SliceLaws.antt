@@ -2,7 +2,7 @@
 use Prim.Native.Nat.{min, ℕ, zero, suc, ◌+◌, ◌-◌, ◌≤◌, ◌<◌}
 use borrow.Rule.Slice.PartMut.{put_mid}
 use mathlib.Core.Path.{◌≡◌, refl, sym, ap, ◌∙◌}
-use mathlib.Core.List.{List, [], ◌∷◌, ◌++◌}
+use mathlib.Core.List.{List, [], ◌∷◌, ◌++◌, flat_map}
 use mathlib.Core.Logic.{◌⊎◌, inl, inr}
 use native.Mathlib.Omega.{arith}
 use lib.ListN.{length, get_or, take, drop, set, length-set, length-append, get_or-append}
@@ -92,3 +92,15 @@ part_written zero zero (suc count) (x ∷ xs) (y ∷ l) e f = ap (λ (z : List �
 pub piece_written : (at count : ℕ) (piece l : List ℕ) → count ≡ length piece → at + count ≤ length l → put_mid at count l piece ≡ write_at at piece l
 piece_written at count piece l e h =
     ap (put_mid at count l) (sym (take_all count piece (omega arith))) ∙ part_written at at count piece l (omega arith) (omega arith)
+
+-- ---- lists that are written one after the other
+
+-- those that are still to come, once the first of them is copied over
+pub written_next : {A : Type 0} (f : A → List ℕ) {c : A} {before after : List A} (at next count : ℕ) (out : List ℕ) {piece end : List ℕ} → before ≡ c ∷ after
+    → piece ≡ f c → length (f c) ≡ count → next ≡ at + count → at + count ≤ length out → write_at at (flat_map f before) out ≡ end
+    → write_at next (flat_map f after) (put_mid at count out piece) ≡ end
+unfolding flat_map
+written_next {A} f {c} {before} {after} at next count out {piece} e same long here room h =
+    let place : next ≡ at + length (f c) = omega arith in
+    rw (place, same, piece_written at count (f c) out (sym long) room)
+    (sym (write_at-append at (f c) (flat_map f after) out) ∙ ap (λ (l : List A). write_at at (flat_map f l) out) (sym e) ∙ h)
