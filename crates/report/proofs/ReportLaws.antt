@@ -27,7 +27,6 @@ use Rattle.tables.specs.declared.Reason.TheVariants.{NoRoom}
 use Rattle.std.proofs.Common.{Result, IsOk, Ok, Err}
 use Rattle.questions.specs.declared.Question.{Question}
 use Rattle.questions.specs.Pairs.{demand_of, supply_of}
-use Rattle.questions.specs.Modes.{mode_of}
 use Rattle.questions.specs.Questions.{question_of, program_checks, asked_of}
 use Rattle.questions.proofs.QuestionLaws.{question_asked, asked_refused, asked_question, asked_passes}
 use Rattle.lines.specs.Lines.{file_line, verdict_line, step_line, step_lines}
@@ -111,11 +110,11 @@ module _ (mode : Mode) (D S : Machine) (t w : ℕ) (entry : List ℕ) where
 module _ (s full partial : List ℕ) where
   -- where a question is asked, the answers to it
   module _ (q : Question) (asks : asked_of s ≡ Ok q) (k : ℕ) (count : tables_of s ≡ k) where
-    abbrev found : ℕ → Found
-    found mode = found_of (mode_of mode) (demand_of s q) (supply_of s q) q.demand.state q.supply.state
+    abbrev found : Mode → Found
+    found mode = found_of mode (demand_of s q) (supply_of s q) q.demand.state q.supply.state
 
-    abbrev run : ℕ → List ℕ
-    run mode = steps (mode_of mode) (demand_of s q) (supply_of s q) q.demand.state q.supply.state
+    abbrev run : Mode → List ℕ
+    run mode = steps mode (demand_of s q) (supply_of s q) q.demand.state q.supply.state
 
     text_outcome : text s ≡ file_line (length s) k ++ asked_line q ++ decision_text Full s q ++ decision_text Partial s q
     unfolding text
@@ -124,20 +123,19 @@ module _ (s full partial : List ℕ) where
         ap (λ (c : Checked). text_after c s) passed
         ∙ (λ i. file_line (length s) (count i) ++ asked_line (same i) ++ decision_text Full s (same i) ++ decision_text Partial s (same i))
 
-    steps_in : (mode : ℕ) (a : Found) (l : List ℕ) → a ≡ found mode → 8192 ≤ length l → 2 * a.steps ≤ length l
+    steps_in : (mode : Mode) (a : Found) (l : List ℕ) → a ≡ found mode → 8192 ≤ length l → 2 * a.steps ≤ length l
     steps_in mode a l e h =
         let few = few_pairs s q (asked_passes s q asks) in
-        let most = mark_within (mode_of mode) (demand_of s q) (supply_of s q) q.demand.state q.supply.state in
+        let most = mark_within mode (demand_of s q) (supply_of s q) q.demand.state q.supply.state in
         let is : a.steps ≡ (found mode).steps = ap (λ (f : Found). f.steps) e in
         omega arith
 
-    module _ (every some : Found) (entry more : List ℕ) (full-found : every ≡ found 0) (full-run : full ≡ overwrite (run 0) entry)
-        (partial-found : some ≡ found 1) (partial-run : partial ≡ overwrite (run 1) more) where
+    module _ (every some : Found) (entry more : List ℕ) (full-found : every ≡ found Full) (full-run : full ≡ overwrite (run Full) entry)
+        (partial-found : some ≡ found Partial) (partial-run : partial ≡ overwrite (run Partial) more) where
       abbrev outcome : Outcome
       outcome = record { bytes = length s; tables = k; question = q; full = every; partial = some }
 
       page_is : page_text (Ok outcome) full partial ≡ text s
-      unfolding mode_of
       page_is =
           (λ i. file_line (length s) k ++ asked_line q ++ found_text Full (full-found i) (full-run i) ++ found_text Partial (partial-found i) (partial-run i))
           ∙ (λ i. file_line (length s) k ++ asked_line q
@@ -147,7 +145,7 @@ module _ (s full partial : List ℕ) where
 
       pub answered_page : 8192 ≤ length full → 8192 ≤ length partial
           → (page_text (Ok outcome) full partial ≡ text s) × StepsIn (Ok outcome) full partial
-      answered_page h l = (page_is, (steps_in 0 every full full-found h, steps_in 1 some partial partial-found l))
+      answered_page h l = (page_is, (steps_in Full every full full-found h, steps_in Partial some partial partial-found l))
 
 -- ---- the call
 

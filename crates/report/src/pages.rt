@@ -3,13 +3,12 @@ ghost use Rattle.std.specs.Prelude.{◌*◌, ◌≤◌, ◌≡◌, length, Ok};
 ghost use Rattle.rules.specs.Slices.{overwrite};
 ghost use Rattle.text.specs.Writing.{Wrote};
 ghost use Rattle.questions.specs.Pairs.{pair_checks};
-ghost use Rattle.questions.specs.Modes.{mode_of};
 ghost use Rattle.report.specs.Report.{text};
 ghost use Rattle.report.specs.Pages.{found_at, steps_at, found_text, page_text, StepsIn};
 
 use checker::{Question, Verdict};
 use lines::{put_file, put_refused, put_start, put_steps, put_verdict};
-use questions::ask;
+use questions::{ask, number_of};
 use rules::{Limits, Mode};
 use tables::{Refusal, table_count};
 use text::Writer;
@@ -36,15 +35,16 @@ pub(crate) struct Outcome {
     pub partial: Found,
 }
 
-// What a mode finds, by the number that the calls take, and in `steps` the run that shows a no. Nothing turns back a call here.
-fn find(file: &[u8], question: Question, mode: usize, steps: &mut [u16]) -> Found
-    requires { (pair_checks file.now question ≡ Ok tt) × (mode ≤ 1) × (8192 ≤ length steps.old) }
-    ensures found { result ≡ found_at (mode_of mode) file.now question }
-    ensures steps { steps.new ≡ overwrite (steps_at (mode_of mode) file.now question) steps.old }
+// What a mode finds, and in `steps` the run that shows a no. Nothing turns back a call here.
+fn find(file: &[u8], question: Question, mode: Mode, steps: &mut [u16]) -> Found
+    requires { (pair_checks file.now question ≡ Ok tt) × (8192 ≤ length steps.old) }
+    ensures found { result ≡ found_at mode file.now question }
+    ensures steps { steps.new ≡ overwrite (steps_at mode file.now question) steps.old }
 {
+    let number = number_of(mode);
     let mut marks = [0u16; PAIRS];
-    let verdict = checker::decide(file, question, mode, &mut marks).unwrap();
-    let steps = checker::run(file, question, mode, &mut marks, steps).unwrap();
+    let verdict = checker::decide(file, question, number, &mut marks).unwrap();
+    let steps = checker::run(file, question, number, &mut marks, steps).unwrap();
     Found { verdict, steps }
 }
 
@@ -59,8 +59,8 @@ pub(crate) fn compose(
     ensures whole { StepsIn result full.new partial.new }
 {
     let question = ask(file)?;
-    let every = find(file, question, 0, full);
-    let some = find(file, question, 1, partial);
+    let every = find(file, question, Mode::Full, full);
+    let some = find(file, question, Mode::Partial, partial);
     Ok(Outcome {
         bytes: file.len(),
         tables: table_count(file),

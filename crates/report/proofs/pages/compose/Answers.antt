@@ -8,10 +8,10 @@ use Rattle.rules.proofs.ClauseLaws.{as_text_whole}
 use Rattle.report.proofs.pages.compose.Goals as goal
 
 pub find-every-requires : goal.find-every-requires
-find-every-requires c = (asked_passes _ _ (sym c.ask.ensures ∙ c.in_ok-question.was), omega arith, c.requires.0)
+find-every-requires c = (asked_passes _ _ (sym c.ask.ensures ∙ c.in_ok-question.was), c.requires.0)
 
 pub find-some-requires : goal.find-some-requires
-find-some-requires c = (asked_passes _ _ (sym c.ask.ensures ∙ c.in_ok-question.was), omega arith, c.requires.1)
+find-some-requires c = (asked_passes _ _ (sym c.ask.ensures ∙ c.in_ok-question.was), c.requires.1)
 
 pub returns-in_err-question : goal.returns-in_err-question
 returns-in_err-question c =
