@@ -4,17 +4,22 @@ use input::Call;
 // How many entries a slice can have.
 const ROOM: usize = 65535;
 
-// Entry i holds 50,000 and i modulo 499.
-fn fill(entries: &mut [u16]) {
-    for (i, entry) in entries.iter_mut().enumerate() {
-        *entry = 50000 + (i % 499) as u16;
-    }
+// What entry i holds: 50,000 and i modulo 499.
+fn entry_before(i: usize) -> u16 {
+    50000 + (i % 499) as u16
 }
 
-// Byte i holds i modulo 251: another rule than that of entries, so that it is another function.
-fn fill_bytes(bytes: &mut [u8]) {
-    for (i, byte) in bytes.iter_mut().enumerate() {
-        *byte = (i % 251) as u8;
+// What byte i holds: i modulo 251.
+fn byte_before(i: usize) -> u8 {
+    (i % 251) as u8
+}
+
+// Each place holds what the rule gives for its number.
+fn fill<T: Copy, F: Fn(usize) -> T>(slice: &mut [T], rule: F)
+    requires { F.IsAlwaysCallable rule }
+{
+    for (i, value) in slice.iter_mut().enumerate() {
+        *value = rule(i);
     }
 }
 
@@ -27,8 +32,8 @@ pub(crate) fn entries<F: FnOnce(&mut [u16], &mut [u16]) + Drop>(call: Call, act:
     let lent = first.get_mut(..call.length);
     let second_lent = second.get_mut(..call.second_length);
     if let (Some(first), Some(second)) = (lent, second_lent) {
-        fill(first);
-        fill(second);
+        fill(first, entry_before);
+        fill(second, entry_before);
         act(first, second);
         output::numbers(first);
         output::numbers(second);
@@ -41,7 +46,7 @@ pub(crate) fn bytes<F: FnOnce(&mut [u8]) + Drop>(call: Call, act: F)
 {
     let mut room = [0u8; ROOM];
     if let Some(bytes) = room.get_mut(..call.length) {
-        fill_bytes(bytes);
+        fill(bytes, byte_before);
         act(bytes);
         output::numbers(bytes);
     }

@@ -9,8 +9,8 @@
 //   6 entries of the first lent slice (of Join, `report::write` and Graph: bytes)    7 entries of the second
 // The first line of an answer is the number and the place, 0 and 0 where the call is carried out, and three values that it returns, 0 where there are
 // fewer. The lines after it are the slices, every entry of them: two for Moves of a pair, Decide and Run, of which only Run is lent the second; one of
-// bytes for Join, `report::write` and Graph; for Body the bytes of the part that it returns. What slices hold before the call: `lent::fill` and
-// `lent::fill_bytes`. The readers answer with a line for the entry, one for the row and one for the bytes of the entry's body, the constants with one
+// bytes for Join, `report::write` and Graph; for Body the bytes of the part that it returns. What slices hold before the call: `lent::entry_before`
+// and `lent::byte_before`. The readers answer with a line for the entry, one for the row and one for the bytes of the entry's body, the constants with one
 // line. A line with a single point ends each answer, and is all of it for a question shorter than a head, for another operation, and where a slice is
 // to have more than `lent::ROOM` entries. A question that is longer than `LONGEST`, or that the input ends in, ends the program.
 #![tactic(auto)]

@@ -1,6 +1,9 @@
 // Questions on standard input, for a program that answers them: the length in front of a question, and the call that its head names, with the file. What
-// is read no contract states, and the case files hold it. Relies on `questions` for what a question about a pair is, and on `io`.
+// the input gives no contract states, and the case files hold it. Relies on `questions` for what a question about a pair is, and on `io`.
 #![tactic(auto)]
+
+ghost use Rattle.std.specs.Prelude.{◌≡◌};
+ghost use Rattle.input.specs.Calls.{number, side, asked_of, told};
 
 mod operations;
 
@@ -30,9 +33,28 @@ pub fn next_length() -> Option<usize> {
     Some(usize::from_le_bytes(length))
 }
 
+// The number in eight bytes.
+fn number(bytes: &[u8; 8]) -> usize
+    ensures { result ≡ number bytes.now }
+{
+    usize::from_le_bytes(*bytes)
+}
+
+// A side of a question, by the bytes of its numbers.
+fn side(table: &[u8; 8], state: &[u8; 8]) -> Side
+    ensures { result ≡ side table.now state.now }
+{
+    Side {
+        table: number(table),
+        state: number(state),
+    }
+}
+
 impl<'a> Call<'a> {
     // The call that a question names; None where the question is shorter than a head, or for another operation.
-    pub fn read(asked: &'a [u8]) -> Option<Self> {
+    pub fn read(asked: &'a [u8]) -> Option<Self>
+        ensures { told result ≡ asked_of asked.now }
+    {
         let (head, file) = asked.split_at_checked(HEAD)?;
         let [
             operation,
@@ -46,11 +68,6 @@ impl<'a> Call<'a> {
         ] = head.as_chunks::<8>().0
         else {
             return None;
-        };
-        let number = |bytes: &[u8; 8]| usize::from_le_bytes(*bytes);
-        let side = |table: &[u8; 8], state: &[u8; 8]| Side {
-            table: number(table),
-            state: number(state),
         };
         Some(Call {
             operation: Operation::try_from(number(operation)).ok()?,

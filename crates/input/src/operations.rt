@@ -1,4 +1,7 @@
 // The operations, and the number of each in the head of a question.
+ghost use Rattle.std.specs.Prelude.{◌≡◌};
+ghost use Rattle.input.specs.Operations.{operation_of};
+
 #[derive(Clone, Copy)]
 pub enum Operation {
     Open,
@@ -19,6 +22,8 @@ pub struct UnknownOperation {}
 
 impl TryFrom<usize> for Operation {
     type Error = UnknownOperation;
+
+    ghost try_from_gives = { λ number found. found ≡ operation_of number };
 
     fn try_from(number: usize) -> Result<Self, UnknownOperation> {
         match number {

@@ -16,7 +16,7 @@ mod named;
 mod programs;
 mod sizes;
 
-pub use modes::{check_decision, mode_of};
+pub use modes::{check_decision, mode_of, number_of};
 pub use named::{Named, check_named};
 pub use programs::ask;
 pub use sizes::check_join;

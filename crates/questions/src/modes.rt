@@ -1,5 +1,5 @@
 // Questions about a pair of states in a mode: what turns them back, and the mode that a number names.
-ghost use Rattle.std.specs.Prelude.{◌≡◌};
+ghost use Rattle.std.specs.Prelude.{◌≡◌, ◌≤◌};
 ghost use Rattle.questions.specs.Modes.{mode_of, mode_checks};
 
 use crate::{Question, check_pair};
@@ -25,4 +25,16 @@ pub fn mode_of(number: usize) -> Mode
         return Mode::Full;
     }
     Mode::Partial
+}
+
+// The number of a mode.
+#[tactic(auto, unfolding(crate::specs::Modes::mode_of))]
+pub fn number_of(mode: Mode) -> usize
+    ensures mode { mode_of result ≡ mode }
+    ensures few { result ≤ 1 }
+{
+    match mode {
+        Mode::Full => 0,
+        Mode::Partial => 1,
+    }
 }

@@ -5,12 +5,15 @@ use mathlib.Core.List.{List, [], ◌∷◌}
 use native.Mathlib.Nat.{mul-le-mul}
 use native.Mathlib.Omega.{arith}
 use lib.Dec.{eqb}
-use lib.ListN.{length, get_or}
+use lib.ListN.{length, get_or, take, drop}
+use lib.Seq.{take_at}
 use Rattle.rules.specs.Below.{one}
 use Rattle.rules.specs.Slices.{overwrite}
 use Rattle.rules.specs.Machines.{Machine}
 use Rattle.rules.specs.Rounds.{mark, kept_count, rounds}
 use Rattle.rules.proofs.BelowLaws.{one_same}
+use Rattle.rules.proofs.MarkLaws.{mark_within}
+use Rattle.rules.proofs.StepLaws.{length-steps}
 use Rattle.tables.specs.declared.Refusal.{Refusal}
 use Rattle.tables.specs.Answers.{Answer, answer, counted, carried_out, turned_back, slice_after}
 use Rattle.std.proofs.Common.{Result, Ok, Err, IsOk}
@@ -25,16 +28,11 @@ use Rattle.checker.specs.Decide.{decide_answer}
 use Rattle.checker.specs.Run.{run_checks, run_answer, run_steps}
 use Rattle.checker.proofs.DecideLaws.{none_fault}
 use Rattle.checker.proofs.RunLaws.{no_fault}
-use Rattle.report.specs.declared.pages.Found.{Found}
-use Rattle.report.specs.Pages.{steps_at}
+use Rattle.report.specs.Pages.{verdict_at, steps_at}
 
 -- values that are returned are no refusal
 values_refused : (r : Refusal) (x : ℕ) (xs : List ℕ) → turned_back r ≡ carried_out (x ∷ xs) → ⊥
 values_refused r x xs e = let none : 0 ≡ suc (length xs) = ap (λ (a : Answer). length a.values) e in omega arith
-
--- what was found is what its parts are
-pub found_is : {v w : Verdict} {m n : ℕ} → v ≡ w → m ≡ n → ◌≡◌ {A = Found} (record { verdict = v; steps = m }) (record { verdict = w; steps = n })
-found_is e f = λ i. record { verdict = e i; steps = f i }
 
 module _ (s : List ℕ) (q : Question) (a : pair_checks s q ≡ Ok tt) where
   pub few_pairs : (demand_of s q).n * (supply_of s q).n ≤ 4096
@@ -62,7 +60,7 @@ module _ (s : List ℕ) (q : Question) (a : pair_checks s q ≡ Ok tt) where
     decide_ok (Err r) e = absurd (values_refused r _ _ (e ∙ decided_is))
 
     pub decide_answered : (v : Verdict) → carried_out (one v.yes ∷ v.kept ∷ v.rounds ∷ []) ≡ decide_answer s q mode room
-        → v ≡ record { yes = eqb start 0; kept = kept_count (mode_of mode) D S; rounds = rounds (mode_of mode) D S }
+        → v ≡ verdict_at (mode_of mode) s q
     decide_answered v e =
         let values = ap (λ (x : Answer). x.values) (e ∙ decided_is) in
         let p : v.yes ≡ eqb start 0 = one_same _ _ (ap (λ (l : List ℕ). get_or l 0 0) values) in
@@ -82,10 +80,27 @@ module _ (s : List ℕ) (q : Question) (a : pair_checks s q ≡ Ok tt) where
       run_ok (Ok v) e = refl
       run_ok (Err r) e = absurd (values_refused r _ _ (e ∙ run_is))
 
-      pub run_counted : (count : ℕ) → carried_out (count ∷ []) ≡ run_answer s q mode room more → count ≡ start
+      run_counted : (count : ℕ) → carried_out (count ∷ []) ≡ run_answer s q mode room more → count ≡ start
       run_counted count e = ap (λ (x : Answer). get_or x.values 0 0) (e ∙ run_is)
 
-    pub run_steps_lem : (entry : List ℕ) → 8192 ≤ length entry
+      pub steps_fit_in : (count : ℕ) → carried_out (count ∷ []) ≡ run_answer s q mode room more → 2 * count ≤ 8192
+      steps_fit_in count e =
+          let most = mark_within (mode_of mode) D S q.demand.state q.supply.state in
+          let few = few_pairs in
+          let many = run_counted count e in
+          omega arith
+
+    run_steps_lem : (entry : List ℕ) → 8192 ≤ length entry
         → run_steps s q mode room entry ≡ overwrite (steps_at (mode_of mode) s q) entry
     unfolding run_steps slice_after
     run_steps_lem entry wide = rw (passes (length entry) wide) refl
+
+    -- as many entries as the count says hold them
+    pub steps_written : (entry exit : List ℕ) (count : ℕ) → 8192 ≤ length entry → exit ≡ run_steps s q mode room entry
+        → carried_out (count ∷ []) ≡ run_answer s q mode room (length entry) → take (2 * count) exit ≡ steps_at (mode_of mode) s q
+    unfolding overwrite
+    steps_written entry exit count wide e told =
+        let run : List ℕ = steps_at (mode_of mode) s q in
+        let many = run_counted (length entry) wide count told in
+        (λ i. take (2 * many i) ((e ∙ run_steps_lem entry wide) i))
+        ∙ take_at run (drop (length run) entry) (2 * start) (length-steps (mode_of mode) D S q.demand.state q.supply.state)

@@ -5,8 +5,7 @@ use mathlib.Core.Bool.{Bool, true, false}
 use mathlib.Core.List.{List, [], ◌∷◌, ◌++◌, flat_map}
 use native.Mathlib.Omega.{arith}
 use lib.Dec.{ltb, eqb}
-use lib.ListN.{length, get_or, take, drop, length-append}
-use lib.Seq.{take_at}
+use lib.ListN.{length, get_or, length-append}
 use borrow.Author.Tests.{ltb-false, lt-ltb, le-ltb}
 use Rattle.rules.specs.declared.Mode.{Mode}
 use Rattle.rules.specs.declared.Mode.TheVariants.{Full, Partial}
@@ -17,7 +16,7 @@ use Rattle.rules.specs.Rounds.{mark, kept_count, rounds}
 use Rattle.rules.specs.Steps.{slots, steps}
 use Rattle.rules.proofs.SliceLaws.{write_at-overwrite}
 use Rattle.rules.proofs.MarkLaws.{mark_within}
-use Rattle.rules.proofs.StepLaws.{length-slots, length-steps}
+use Rattle.rules.proofs.StepLaws.{length-slots}
 use Rattle.tables.specs.declared.Refusal.{Refusal}
 use Rattle.tables.specs.Checks.{Checked, refuse, fault}
 use Rattle.tables.specs.Answers.{number_of, counted, Answer, answer, turned_back, carried_out, slice_after}
@@ -27,14 +26,12 @@ use Rattle.tables.specs.declared.Reason.TheVariants.{NoRoom}
 use Rattle.std.proofs.Common.{Result, IsOk, Ok, Err}
 use Rattle.questions.specs.declared.Question.{Question}
 use Rattle.questions.specs.Pairs.{demand_of, supply_of}
-use Rattle.questions.specs.Modes.{mode_of}
 use Rattle.questions.specs.Questions.{question_of, program_checks, asked_of}
-use Rattle.questions.proofs.QuestionLaws.{question_asked, asked_refused, asked_question, asked_passes}
+use Rattle.questions.proofs.QuestionLaws.{question_asked, asked_refused, asked_question}
 use Rattle.lines.specs.Lines.{file_line, verdict_line, step_line, step_lines}
 use Rattle.report.specs.Report.{refusal_line, asked_line, mode_text, decision_text, text_after, text, room_fault, report_answer, report_bytes}
 use Rattle.report.specs.declared.pages.Found.{Found}
-use Rattle.report.specs.declared.pages.Outcome.{Outcome}
-use Rattle.report.specs.Pages.{found_text, found_of, page_text, StepsIn}
+use Rattle.report.specs.Pages.{found_text, verdict_of, verdict_at, steps_at, page_text}
 use Rattle.lines.proofs.LineLaws.{refused_short, file_short, start_short, verdict_short, step_short}
 use Rattle.lines.proofs.StepsLaws.{slots_lines}
 use Rattle.report.proofs.DecisionLaws.{few_pairs}
@@ -93,61 +90,35 @@ text_short s = omega (arith, text_fits s)
 
 -- ---- the composed text
 
--- what a mode found, with the steps at the start of its slice, is the mode's text
-module _ (mode : Mode) (D S : Machine) (t w : ℕ) (entry : List ℕ) where
-  first_steps : take (2 * mark mode D S t w) (overwrite (steps mode D S t w) entry) ≡ steps mode D S t w
-  unfolding overwrite
-  first_steps = take_at (steps mode D S t w) (drop (length (steps mode D S t w)) entry) (2 * mark mode D S t w) (length-steps mode D S t w)
-
+-- what a mode found is the mode's text
+module _ (mode : Mode) (D S : Machine) (t w : ℕ) (f : Found) (verdict : f.verdict ≡ verdict_of mode D S t w) (run : f.steps.now ≡ steps mode D S t w) where
   lines_are : step_lines (steps mode D S t w) ≡ flat_map (λ c. step_line c.supply.row c.task.row) (slots mode D S (mark mode D S t w) t w)
   unfolding steps
   lines_are = slots_lines (slots mode D S (mark mode D S t w) t w)
 
-  pub found_text_lem : found_text mode (found_of mode D S t w) (overwrite (steps mode D S t w) entry) ≡ mode_text mode D S t w
+  found_text_lem : found_text mode f ≡ mode_text mode D S t w
   unfolding found_text mode_text
   found_text_lem =
-      ap (λ (l : List ℕ). verdict_line mode (eqb (mark mode D S t w) 0) (rounds mode D S) (kept_count mode D S) ++ l) (ap step_lines first_steps ∙ lines_are)
+      (λ i. verdict_line mode (verdict i).yes (verdict i).rounds (verdict i).kept ++ step_lines (run i))
+      ∙ ap (λ (l : List ℕ). verdict_line mode (eqb (mark mode D S t w) 0) (rounds mode D S) (kept_count mode D S) ++ l) lines_are
 
-module _ (s full partial : List ℕ) where
-  -- where a question is asked, the answers to it
-  module _ (q : Question) (asks : asked_of s ≡ Ok q) (k : ℕ) (count : tables_of s ≡ k) where
-    abbrev found : ℕ → Found
-    found mode = found_of (mode_of mode) (demand_of s q) (supply_of s q) q.demand.state q.supply.state
+-- where a question is asked, the answers to it
+module _ (s : List ℕ) (q : Question) (asks : asked_of s ≡ Ok q) (k : ℕ) (count : tables_of s ≡ k) where
+  text_outcome : text s ≡ file_line (length s) k ++ asked_line q ++ decision_text Full s q ++ decision_text Partial s q
+  unfolding text
+  text_outcome =
+      let (passed, same) = asked_question s q asks in
+      ap (λ (c : Checked). text_after c s) passed
+      ∙ (λ i. file_line (length s) (count i) ++ asked_line (same i) ++ decision_text Full s (same i) ++ decision_text Partial s (same i))
 
-    abbrev run : ℕ → List ℕ
-    run mode = steps (mode_of mode) (demand_of s q) (supply_of s q) q.demand.state q.supply.state
-
-    text_outcome : text s ≡ file_line (length s) k ++ asked_line q ++ decision_text Full s q ++ decision_text Partial s q
-    unfolding text
-    text_outcome =
-        let (passed, same) = asked_question s q asks in
-        ap (λ (c : Checked). text_after c s) passed
-        ∙ (λ i. file_line (length s) (count i) ++ asked_line (same i) ++ decision_text Full s (same i) ++ decision_text Partial s (same i))
-
-    steps_in : (mode : ℕ) (a : Found) (l : List ℕ) → a ≡ found mode → 8192 ≤ length l → 2 * a.steps ≤ length l
-    steps_in mode a l e h =
-        let few = few_pairs s q (asked_passes s q asks) in
-        let most = mark_within (mode_of mode) (demand_of s q) (supply_of s q) q.demand.state q.supply.state in
-        let is : a.steps ≡ (found mode).steps = ap (λ (f : Found). f.steps) e in
-        omega arith
-
-    module _ (every some : Found) (entry more : List ℕ) (full-found : every ≡ found 0) (full-run : full ≡ overwrite (run 0) entry)
-        (partial-found : some ≡ found 1) (partial-run : partial ≡ overwrite (run 1) more) where
-      abbrev outcome : Outcome
-      outcome = record { bytes = length s; tables = k; question = q; full = every; partial = some }
-
-      page_is : page_text (Ok outcome) full partial ≡ text s
-      unfolding mode_of
-      page_is =
-          (λ i. file_line (length s) k ++ asked_line q ++ found_text Full (full-found i) (full-run i) ++ found_text Partial (partial-found i) (partial-run i))
-          ∙ (λ i. file_line (length s) k ++ asked_line q
-          ++ found_text_lem Full (demand_of s q) (supply_of s q) q.demand.state q.supply.state entry i
-          ++ found_text_lem Partial (demand_of s q) (supply_of s q) q.demand.state q.supply.state more i)
-          ∙ sym text_outcome
-
-      pub answered_page : 8192 ≤ length full → 8192 ≤ length partial
-          → (page_text (Ok outcome) full partial ≡ text s) × StepsIn (Ok outcome) full partial
-      answered_page h l = (page_is, (steps_in 0 every full full-found h, steps_in 1 some partial partial-found l))
+  pub answered_page : (every some : Found) → every.verdict ≡ verdict_at Full s q → every.steps.now ≡ steps_at Full s q
+      → some.verdict ≡ verdict_at Partial s q → some.steps.now ≡ steps_at Partial s q
+      → page_text (Ok (record { bytes = length s; tables = k; question = q; full = every; partial = some })) ≡ text s
+  answered_page every some v l w m =
+      (λ i. file_line (length s) k ++ asked_line q
+      ++ found_text_lem Full (demand_of s q) (supply_of s q) q.demand.state q.supply.state every v l i
+      ++ found_text_lem Partial (demand_of s q) (supply_of s q) q.demand.state q.supply.state some w m i)
+      ∙ sym text_outcome
 
 -- ---- the call
 

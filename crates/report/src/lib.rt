@@ -27,11 +27,11 @@ pub fn write(file: &[u8], out: &mut [u8]) -> Result<usize, Refusal>
     let page = compose(file, &mut full, &mut partial);
     let mut spare = [0u8; 1];
     let mut counted = Writer::new(&mut spare);
-    put_page(&mut counted, page, &full, &partial);
+    put_page(&mut counted, page);
     if out.len() < counted.at() {
         return Err(Refusal::new(Reason::NoRoom, 0));
     }
     let mut written = Writer::new(out);
-    put_page(&mut written, page, &full, &partial);
+    put_page(&mut written, page);
     Ok(written.at())
 }

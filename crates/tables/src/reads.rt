@@ -1,9 +1,11 @@
 // Readers of the file's fields. Each is total: a byte past the end is 0.
-ghost use Rattle.std.specs.Prelude.{◌≡◌, ◌+◌, ◌*◌, length};
+ghost use Rattle.std.specs.Prelude.{◌≡◌, ◌+◌, ◌*◌, eqb, length};
 ghost use Rattle.tables.specs.File.{byte_at, word_at, tables_of, entry_of, body_length, row_of};
+ghost use Rattle.tables.specs.Kinds.{code_of};
 ghost use Rattle.tables.specs.Part.{PartOf, entry_span};
 ghost use Rattle.tables.specs.Tables.{table_of};
 
+use crate::Kind;
 use rules::Row;
 
 // A contents entry as the file has it: `kind` is any byte, since Open tells of each whether it is a kind's; `states` is document 01's n, and `rows` its m.
@@ -21,6 +23,13 @@ impl Entry {
         ensures { result ≡ body_length self }
     {
         4 * (self.rows as usize)
+    }
+
+    // Whether the table is of this kind.
+    pub fn has_kind(self, kind: Kind) -> bool
+        ensures { result ≡ eqb self.kind (code_of kind) }
+    {
+        self.kind == kind.code()
     }
 }
 

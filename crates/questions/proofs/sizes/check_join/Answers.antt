@@ -3,7 +3,6 @@ use Prim.Native.Nat.{◌*◌}
 use mathlib.Core.Path.{refl, sym, ◌∙◌}
 use native.Mathlib.Omega.{arith}
 use borrow.Author.Tests.{lt-ltb, le-ltb}
-use Rattle.rules.proofs.BelowLaws.{small_product}
 use Rattle.tables.specs.Checks.{fault}
 use Rattle.tables.proofs.CheckLaws.{handed_on, then_stops, then_goes}
 use Rattle.questions.specs.Sizes.{size_checks}
@@ -12,9 +11,6 @@ use Rattle.questions.proofs.sizes.check_join.Goals as goal
 pub returns-in_err-check_named : goal.returns-in_err-check_named
 unfolding size_checks
 returns-in_err-check_named c = handed_on _ _ c.from_residual.ensures.1 ∙ sym c.in_err-check_named.was ∙ then_stops _ _ _ _ c.check_named.ensures c.in_err-check_named.was
-
-pub overflow_mul-states : goal.overflow_mul-states
-overflow_mul-states c = let p = small_product c.states_of.result c.states_of-2.result (omega arith) (omega arith) in omega arith
 
 pub returns-then-states-gt-STATES : goal.returns-then-states-gt-STATES
 unfolding size_checks fault

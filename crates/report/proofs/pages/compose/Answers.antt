@@ -1,25 +1,21 @@
 -- `report::pages::compose` meets its contract, by what is asked.
 use mathlib.Core.Path.{sym, ◌∙◌}
-use native.Mathlib.Omega.{arith}
 use Rattle.tables.proofs.CheckLaws.{handed_on}
 use Rattle.questions.proofs.QuestionLaws.{asked_passes}
 use Rattle.report.proofs.ReportLaws.{text_refused, answered_page}
-use Rattle.rules.proofs.ClauseLaws.{as_text_whole}
 use Rattle.report.proofs.pages.compose.Goals as goal
 
 pub find-every-requires : goal.find-every-requires
-find-every-requires c = (asked_passes _ _ (sym c.ask.ensures ∙ c.in_ok-question.was), omega arith, c.requires.0)
+find-every-requires c = (asked_passes _ _ (sym c.ask.ensures ∙ c.in_ok-question.was), c.requires.0)
 
 pub find-some-requires : goal.find-some-requires
-find-some-requires c = (asked_passes _ _ (sym c.ask.ensures ∙ c.in_ok-question.was), omega arith, c.requires.1)
+find-some-requires c = (asked_passes _ _ (sym c.ask.ensures ∙ c.in_ok-question.was), c.requires.1)
 
 pub returns-in_err-question : goal.returns-in_err-question
 returns-in_err-question c =
-    rw (handed_on _ _ c.from_residual.ensures.1) (record { text = sym (text_refused _ _ (sym c.ask.ensures ∙ c.in_err-question.was)); whole = tt })
+    rw (handed_on _ _ c.from_residual.ensures.1) (sym (text_refused _ _ (sym c.ask.ensures ∙ c.in_err-question.was)))
 
 pub returns : goal.returns
 returns c =
-    as_text_whole
-    (answered_page _ _ _ _ (sym c.ask.ensures ∙ c.in_ok-question.was) _ (sym c.table_count.ensures) _ _ _ _ c.find-every.ensures.found c.find-every.ensures.steps
-    c.find-some.ensures.found c.find-some.ensures.steps (let room = c.requires.0 in let same = c.find-every.auto.steps in omega arith)
-    (let room = c.requires.1 in let same = c.find-some.auto.steps in omega arith))
+    answered_page _ _ (sym c.ask.ensures ∙ c.in_ok-question.was) _ (sym c.table_count.ensures) _ _ c.find-every.ensures.verdict c.find-every.ensures.steps
+    c.find-some.ensures.verdict c.find-some.ensures.steps

@@ -1,8 +1,7 @@
 -- `tables::checks::check_contents` meets its contract. The invariant: the entries before i have passed, and end is the end of what precedes body i.
 use Prim.Native.Nat.{◌+◌, ◌*◌, ℕ}
-use mathlib.Core.Path.{◌≡◌, refl, sym, ◌∙◌, ap}
+use mathlib.Core.Path.{refl, sym, ◌∙◌, ap}
 use native.Mathlib.Omega.{arith}
-use Rattle.tables.specs.File.{end_before}
 use Rattle.tables.specs.Open.{entry_fault}
 use Rattle.tables.proofs.CheckLaws.{handed_on, scan_none, scan_next, scan_stops, scan_done, then_stops, then_goes}
 use Rattle.tables.proofs.FileLaws.{end_first, end_more}
@@ -11,9 +10,6 @@ use Rattle.tables.proofs.checks.check_contents.Goals as goal
 
 pub loop-i-init : goal.loop-i-init
 loop-i-init c = (omega arith, scan_none _, ap (λ (k : ℕ). 2 + 6 * k) c.requires.1 ∙ sym (end_first _))
-
-pub check_entry-requires : goal.check_entry-requires
-check_entry-requires c = (omega arith, c.loop-i.invariant.2)
 
 pub returns-in_err-check_entry : goal.returns-in_err-check_entry
 returns-in_err-check_entry c =
@@ -33,9 +29,6 @@ loop-i-preserved c = (
   scan_next _ _ _ c.loop-i.invariant.1 c.check_entry.ensures c.in_ok-check_entry.was,
   end_more _ _ _ _ _ c.loop-i.invariant.2 c.entry_at.ensures c.body_length-end.ensures,
 )
-
-pub check_length-requires : goal.check_length-requires
-check_length-requires c = let k : c.args.k ≡ c.loop-i.i = omega arith in c.loop-i.invariant.2 ∙ ap (end_before _) (sym k ∙ c.requires.1)
 
 pub returns : goal.returns
 returns c = then_goes _ _ _ _ (scan_done _ _ _ c.loop-i.invariant.1 (omega arith) (omega arith)) refl c.check_length.ensures

@@ -1,7 +1,7 @@
 -- `tables::checks::check_rows` meets its contract. The invariant: the rows before j have passed.
 use native.Mathlib.Omega.{arith}
 use mathlib.Core.Path.{sym, ◌∙◌}
-use Rattle.tables.proofs.CheckLaws.{handed_on, scan_none, scan_next, scan_stops, scan_done}
+use Rattle.tables.proofs.CheckLaws.{handed_on, scan_none, scan_next, scan_stops}
 use Rattle.tables.proofs.checks.check_rows.Goals as goal
 
 pub loop-j-init : goal.loop-j-init
@@ -12,6 +12,3 @@ returns-in_err-check_row c = handed_on _ _ c.from_residual.ensures.1 ∙ sym c.i
 
 pub loop-j-preserved : goal.loop-j-preserved
 loop-j-preserved c = (omega arith, scan_next _ _ _ c.loop-j.invariant.1 c.check_row.ensures c.in_ok-check_row.was)
-
-pub returns : goal.returns
-returns c = scan_done _ _ _ c.loop-j.invariant.1 (omega arith) (omega arith)
