@@ -7,7 +7,7 @@
 ghost use Rattle.std.specs.Prelude.{◌≡◌, Ok};
 ghost use Rattle.questions.specs.Pairs.{pair_checks, PairLoaded};
 
-use machines::Machine;
+use machines::{Machine, Sides};
 use rules::Pair;
 use tables::{Kind, Reason, Refusal, states_of};
 
@@ -63,6 +63,19 @@ pub struct Loaded {
     pub demand: Machine,
     pub supply: Machine,
     pub start: Pair,
+}
+
+impl Loaded {
+    // The two machines.
+    pub fn sides(&self) -> Sides<'_>
+        ensures demand { result.demand.now ≡ self.now.demand }
+        ensures supply { result.supply.now ≡ self.now.supply }
+    {
+        Sides {
+            demand: &self.demand,
+            supply: &self.supply,
+        }
+    }
 }
 
 // Loads the two tables that a question names.

@@ -25,10 +25,10 @@ pub fn check_named(file: &[u8], first: Named, second: Named) -> Result<(), Refus
     if k <= second.table {
         return Err(Refusal::new(Reason::NoTable, 0));
     }
-    if entry_at(file, first.table).kind != first.kind.code() {
+    if !entry_at(file, first.table).has_kind(first.kind) {
         return Err(Refusal::new(Reason::WrongKind, 0));
     }
-    if entry_at(file, second.table).kind != second.kind.code() {
+    if !entry_at(file, second.table).has_kind(second.kind) {
         return Err(Refusal::new(Reason::WrongKind, 0));
     }
     Ok(())

@@ -10,7 +10,7 @@ use tables::{Kind, Reason, Refusal, entry_at, open, states_of};
 fn first_table(file: &[u8], k: usize, kind: Kind) -> Option<usize>
     ensures { result ≡ first_found file.now kind k }
 {
-    (0..k).find(|i| entry_at(file, *i).kind == kind.code())
+    (0..k).find(|i| entry_at(file, *i).has_kind(kind))
 }
 
 // A table, with the state that it is started from.
