@@ -20,7 +20,7 @@ use Rattle.tables.proofs.CheckLaws.{then_left, then_fault, turned_back_lem, pass
 use Rattle.machines.specs.Machine.{machine_in}
 use Rattle.questions.specs.declared.Loaded.{Loaded}
 use Rattle.marks.proofs.RoundLaws.{has-marks}
-use Rattle.runs.specs.Walks.{RunStarts, mark_from, steps_from}
+use Rattle.runs.specs.Starts.{RunStarts, mark_from, steps_from}
 use Rattle.questions.specs.declared.Question.{Question}
 use Rattle.questions.specs.Pairs.{pair_checks, demand_of, supply_of, PairLoaded}
 use Rattle.questions.specs.Modes.{mode_of, mode_checks}

@@ -15,13 +15,10 @@ ghost use Rattle.checker.specs.Run.{run_answer, run_marks, run_steps};
 ghost use Rattle.checker.specs.Demands.{MovesDemands, DecideDemands, RunDemands};
 ghost use Rattle.checker.specs.Join.{join_answer, join_slice, JoinDemands};
 
-use questions::{check_decision, check_join, check_pair};
-use tables::Refusal;
-
-mod joining;
-mod pairs;
-
+use machines::Machine;
+use questions::{check_decision, check_join, check_pair, load_pair, mode_of};
 pub use questions::{Question, Side};
+use tables::{Reason, Refusal};
 
 // What Decide finds: yes or no for the start pair, the count kept, and rounds.
 #[derive(Clone, Copy)]
@@ -45,7 +42,14 @@ pub fn moves(file: &[u8], question: Question, out: &mut [u16]) -> Result<usize, 
     ensures demands { MovesDemands file.now question (counted result) out.new }
 {
     check_pair(file, question)?;
-    pairs::write_moves(file, question, out)
+    let loaded = load_pair(file, question);
+    let sides = loaded.sides();
+    let count = moves::count(sides, loaded.start);
+    if out.len() / moves::ENTRIES_PER_MOVE < count {
+        return Err(Refusal::new(Reason::NoRoom, 0));
+    }
+    moves::write(sides, loaded.start, out);
+    Ok(count)
 }
 
 // Graph: the surviving moves of all pairs of states as .aut text for a viewer, with the question's pair as its start.
@@ -55,7 +59,14 @@ pub fn graph(file: &[u8], question: Question, out: &mut [u8]) -> Result<usize, R
     ensures demands { GraphDemands file.now question (counted result) out.new }
 {
     check_pair(file, question)?;
-    pairs::write_graph(file, question, out)
+    let loaded = load_pair(file, question);
+    let sides = loaded.sides();
+    let extent = graphs::measure(sides, loaded.start);
+    if out.len() < extent.bytes {
+        return Err(Refusal::new(Reason::NoRoom, 0));
+    }
+    graphs::write(sides, loaded.start, extent.lines, out);
+    Ok(extent.bytes)
 }
 
 // Decide: the marks of all pairs of states, by mode 0 (full) or 1 (partial), and what they say of the start pair. Modes are numbers here, since a caller
@@ -71,7 +82,17 @@ pub fn decide(
     ensures demands { DecideDemands file.now question mode (decided result) marks.new }
 {
     check_decision(file, question, mode)?;
-    pairs::write_marks(file, question, mode, marks)
+    let loaded = load_pair(file, question);
+    let sides = loaded.sides();
+    if marks.len() < sides.pairs() {
+        return Err(Refusal::new(Reason::NoRoom, 0));
+    }
+    let summary = marks::write(sides, mode_of(mode), marks);
+    Ok(Verdict {
+        yes: marks::mark_of(&loaded.supply, marks, loaded.start) == 0,
+        kept: summary.kept,
+        rounds: summary.rounds,
+    })
 }
 
 // Run: the marks as Decide writes them, and the steps of the run from the start pair, supply row and task row of each.
@@ -88,7 +109,17 @@ pub fn run(
     ensures demands { RunDemands file.now question mode (counted result) marks.new steps.new }
 {
     check_decision(file, question, mode)?;
-    pairs::write_run(file, question, mode, marks, steps)
+    let loaded = load_pair(file, question);
+    let sides = loaded.sides();
+    let pairs = sides.pairs();
+    if marks.len() < pairs {
+        return Err(Refusal::new(Reason::NoRoom, 0));
+    }
+    if steps.len() < 2 * pairs {
+        return Err(Refusal::new(Reason::NoRoom, 0));
+    }
+    let count = runs::write(sides, mode_of(mode), loaded.start, marks, steps);
+    Ok(count as usize)
 }
 
 // Join: two demand tables, perhaps the same one, as one table whose states are the pairs of their states. Its body is written.
@@ -98,5 +129,9 @@ pub fn join(file: &[u8], first: usize, second: usize, out: &mut [u8]) -> Result<
     ensures demands { JoinDemands file.now first second (joined result) out.new }
 {
     check_join(file, first, second)?;
-    joining::write_join(file, first, second, out)
+    let first_machine = Machine::load(file, first, 0);
+    let second_machine = Machine::load(file, second, 0);
+    let states = first_machine.pairs_with(&second_machine);
+    let rows = joins::write(&first_machine, &second_machine, out)?;
+    Ok(TableSize { states, rows })
 }

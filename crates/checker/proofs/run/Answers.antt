@@ -1,9 +1,15 @@
--- `checker::run` meets its contract. What turns back the pair or the mode is handed on; then the engines answer.
+-- `checker::run` meets its contract. What turns back the pair or the mode is handed on; then the engine writes the marks and the run along them.
 use mathlib.Core.Path.{sym, ◌∙◌}
-use Rattle.std.proofs.Common.{Err}
+use native.Mathlib.Omega.{arith}
+use Rattle.std.proofs.Common.{Ok, Err}
+use Rattle.tables.specs.Checks.{refuse}
+use Rattle.tables.specs.declared.Reason.TheVariants.{NoRoom}
 use Rattle.tables.proofs.CheckLaws.{handed_on, then_fault}
+use Rattle.questions.proofs.PairLaws.{pairs_are, pairs_few}
+use Rattle.questions.proofs.ModeLaws.{mode_asked}
 use Rattle.checker.specs.Decide.{decide_checks}
-use Rattle.checker.proofs.RunLaws.{decide_fault, run_turned_back, run_shown}
+use Rattle.checker.proofs.DecideLaws.{short_fault}
+use Rattle.checker.proofs.RunLaws.{decide_fault, run_turned_back, steps_fault, run_starts, run_carried_out, run_shown}
 use Rattle.rules.proofs.ClauseLaws.{as_answer_marks_steps_demands}
 use Rattle.checker.proofs.run.Goals as goal
 
@@ -11,8 +17,35 @@ pub returns-in_err-check_decision : goal.returns-in_err-check_decision
 unfolding decide_checks
 returns-in_err-check_decision c = rw (handed_on _ _ c.from_residual.ensures.1) (as_answer_marks_steps_demands (run_shown _ _ _ _ _ (Err _) (run_turned_back _ _ _ _ _ _ (decide_fault _ _ _ _ _ _ (then_fault _ _ _ (sym c.check_decision.ensures ∙ c.in_err-check_decision.was))))))
 
-pub write_run-requires : goal.write_run-requires
-write_run-requires c = sym c.check_decision.ensures ∙ c.in_ok-check_decision.was
+pub load_pair-loaded-requires : goal.load_pair-loaded-requires
+load_pair-loaded-requires c = mode_asked _ _ _ (sym c.check_decision.ensures ∙ c.in_ok-check_decision.was)
+
+pub returns-then-marks-pairs : goal.returns-then-marks-pairs
+returns-then-marks-pairs c =
+    let pairs = pairs_are c.load_pair-loaded.ensures (rw (c.sides-sides.ensures.demand, c.sides-sides.ensures.supply) at c.pairs-pairs.ensures) in
+    rw c.new.ensures (as_answer_marks_steps_demands (run_shown _ _ _ _ _ (Err (refuse NoRoom 0))
+    (run_turned_back _ _ _ (refuse NoRoom 0) _ _ (decide_fault _ _ _ _ _ _ (short_fault _ _ _ (sym c.check_decision.ensures ∙ c.in_ok-check_decision.was) _ (rw (← pairs) c.if-marks-pairs.true))))))
+
+pub overflow_mul-pairs : goal.overflow_mul-pairs
+overflow_mul-pairs c = let few = pairs_few c.load_pair-loaded.ensures (rw (c.sides-sides.ensures.demand, c.sides-sides.ensures.supply) at c.pairs-pairs.ensures) in omega arith
+
+pub returns-then-steps-pairs : goal.returns-then-steps-pairs
+returns-then-steps-pairs c =
+    let pairs = pairs_are c.load_pair-loaded.ensures (rw (c.sides-sides.ensures.demand, c.sides-sides.ensures.supply) at c.pairs-pairs.ensures) in
+    rw c.new-then-steps-pairs.ensures (as_answer_marks_steps_demands (run_shown _ _ _ _ _ (Err (refuse NoRoom 0))
+    (run_turned_back _ _ _ (refuse NoRoom 0) _ _ (steps_fault _ _ _ (sym c.check_decision.ensures ∙ c.in_ok-check_decision.was) _ (rw (← pairs) c.if-marks-pairs.false) _ (rw (← pairs) c.if-steps-pairs.true)))))
+
+pub write-count-requires : goal.write-count-requires
+write-count-requires c =
+    let pairs = pairs_are c.load_pair-loaded.ensures (rw (c.sides-sides.ensures.demand, c.sides-sides.ensures.supply) at c.pairs-pairs.ensures) in
+    rw (c.sides-sides.ensures.demand, c.sides-sides.ensures.supply)
+    (run_starts _ _ _ (sym c.check_decision.ensures ∙ c.in_ok-check_decision.was) c.load_pair-loaded.ensures _ c.mode_of.ensures (rw (← pairs) c.if-marks-pairs.false) (rw (← pairs) c.if-steps-pairs.false))
 
 pub returns : goal.returns
-returns c = as_answer_marks_steps_demands (run_shown _ _ _ _ _ c.write_run.result (c.write_run.ensures.answer, (c.write_run.ensures.marks, c.write_run.ensures.steps)))
+returns c =
+    let pairs = pairs_are c.load_pair-loaded.ensures (rw (c.sides-sides.ensures.demand, c.sides-sides.ensures.supply) at c.pairs-pairs.ensures) in
+    let marks = rw (c.sides-sides.ensures.demand, c.sides-sides.ensures.supply) at c.write-count.ensures.marks in
+    let count = rw (c.sides-sides.ensures.demand, c.sides-sides.ensures.supply) at c.write-count.ensures.count in
+    let steps = rw (c.sides-sides.ensures.demand, c.sides-sides.ensures.supply) at c.write-count.ensures.steps in
+    as_answer_marks_steps_demands (run_shown _ _ _ _ _ (Ok _)
+    (run_carried_out _ _ _ (sym c.check_decision.ensures ∙ c.in_ok-check_decision.was) c.load_pair-loaded.ensures _ c.mode_of.ensures _ _ (rw (← pairs) c.if-marks-pairs.false) (rw (← pairs) c.if-steps-pairs.false) marks count steps))
