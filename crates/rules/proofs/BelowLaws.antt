@@ -18,10 +18,6 @@ use Rattle.rules.specs.Rounds.{count_pairs, pair_number}
 use Rattle.rules.proofs.Booleans.{T-or}
 use Rattle.rules.proofs.ListLaws.{map-append, pairwise_append}
 
--- the product of two bytes is small
-pub small_product : (a b : ℕ) → a < 256 → b < 256 → a * b < 65536
-small_product a b k l = let wide : a ≤ 255 = omega arith in omega (arith, mul-le-mul_right b wide)
-
 -- two tables have few pairs of states
 pub few_pairs : (a b : ℕ) → a ≤ 64 → b ≤ 64 → a * b ≤ 4096
 few_pairs a b k l = omega (arith, mul-le-mul_right b k)

@@ -6,15 +6,9 @@ module _ {A B : Type 0} where
   pub as_answer_bytes : A × B → record { answer : A; bytes : B }
   as_answer_bytes p = record { answer = p.0; bytes = p.1 }
 
-  pub as_text_whole : A × B → record { text : A; whole : B }
-  as_text_whole p = record { text = p.0; whole = p.1 }
-
 module _ {A B C : Type 0} where
   pub as_answer_slice_demands : A × (B × C) → record { answer : A; slice : B; demands : C }
   as_answer_slice_demands p = record { answer = p.0; slice = p.1.0; demands = p.1.1 }
-
-  pub as_answer_marks_steps : A × (B × C) → record { answer : A; marks : B; steps : C }
-  as_answer_marks_steps p = record { answer = p.0; marks = p.1.0; steps = p.1.1 }
 
 module _ {A B C D : Type 0} where
   pub as_answer_marks_steps_demands : A × (B × (C × D)) → record { answer : A; marks : B; steps : C; demands : D }

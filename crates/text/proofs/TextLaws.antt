@@ -1,13 +1,12 @@
 -- Laws of text: pieces that are written one after the other, and the digits of a number. Relies on `rules` for what a slice holds.
-use borrow.Rule.Slice.PartMut.{put_mid}
-use Prim.Native.Nat.{min, ℕ, zero, suc, ◌+◌, ◌*◌, ◌/◌, ◌%◌, ◌^◌, ◌-◌, ◌≤◌, ◌<◌}
+use Prim.Native.Nat.{ℕ, zero, suc, ◌+◌, ◌*◌, ◌/◌, ◌%◌, ◌^◌, ◌-◌, ◌≤◌, ◌<◌}
 use mathlib.Core.Path.{◌≡◌, refl, sym, ap, ◌∙◌}
 use mathlib.Core.Bool.{Bool, true, false, cond}
 use mathlib.Core.List.{List, [], ◌∷◌, ◌++◌}
 use native.Mathlib.Omega.{arith}
 use lib.Dec.{ltb}
 use native.Mathlib.Nat.{pow-suc, pow-le-pow_right}
-use lib.ListN.{length, take, set, length-append}
+use lib.ListN.{length, take, length-append}
 use borrow.Author.Tests.{ltb-true, ltb-false, lt-ltb, le-ltb}
 use Rattle.io.specs.Digits.{hex_digit_ascii, last_digits, IsDigitCount}
 use Rattle.rules.specs.Slices.{write_at}
@@ -15,30 +14,6 @@ use Rattle.rules.proofs.SliceLaws.{write_at-append}
 use Rattle.text.specs.Text.{digit, digits_in, decimal}
 use Rattle.text.specs.Writing.{Wrote}
 use Rattle.text.specs.declared.Writer.{Writer}
-
--- ---- a piece, as far as the buffer reaches
-
-nothing_written : (at : ℕ) (piece : List ℕ) → write_at at piece [] ≡ []
-unfolding write_at
-nothing_written at [] = refl
-nothing_written at (x ∷ xs) = nothing_written (suc at) xs
-
-behind_first : (at : ℕ) (piece : List ℕ) (y : ℕ) (l : List ℕ) → write_at (suc at) piece (y ∷ l) ≡ y ∷ write_at at piece l
-unfolding write_at
-behind_first at [] y l = refl
-behind_first at (x ∷ xs) y l = behind_first (suc at) xs y (set l at x)
-
--- the bytes of the piece that fit take the place of as many
-pub part_written : (at start count : ℕ) (piece l : List ℕ) → start ≡ min at (length l) → count ≡ min (length piece) (length l - start)
-    → put_mid start count l (take count piece) ≡ write_at at piece l
-unfolding write_at
-part_written at start count piece [] e f = let s : start ≡ 0 = omega arith in let k : count ≡ 0 = omega arith in rw (s, k) (sym (nothing_written at piece))
-part_written (suc at) zero count piece (y ∷ l) e f = absurd (omega arith)
-part_written (suc at) (suc start) count piece (y ∷ l) e f = ap (λ (z : List ℕ). y ∷ z) (part_written at start count piece l (omega arith) (omega arith)) ∙ sym (behind_first at piece y l)
-part_written zero (suc start) count piece (y ∷ l) e f = absurd (omega arith)
-part_written zero zero count [] (y ∷ l) e f = let k : count ≡ 0 = omega arith in rw k refl
-part_written zero zero zero (x ∷ xs) (y ∷ l) e f = absurd (omega arith)
-part_written zero zero (suc count) (x ∷ xs) (y ∷ l) e f = ap (λ (z : List ℕ). x ∷ z) (part_written 0 0 count xs l (omega arith) (omega arith)) ∙ sym (behind_first 0 xs x l)
 
 -- ---- pieces one after the other
 

@@ -1,6 +1,6 @@
 -- `text::Writer::put` meets its contract. The part of the piece that fits is copied.
 use Rattle.std.proofs.Common.{◌≡◌, ◌+◌, ◌-◌, arith, refl}
-use Rattle.text.proofs.TextLaws.{part_written}
+use Rattle.rules.proofs.SliceLaws.{part_written}
 use Rattle.text.proofs.Writer.put.Goals as goal
 
 pub returns : goal.returns
