@@ -5,7 +5,7 @@
 
 ghost use Rattle.std.specs.Prelude.{◌≡◌};
 ghost use Rattle.rules.specs.Sets.{difference, disjoint, left, consumed, unmet, inside, larger};
-ghost use Rattle.rules.specs.Rows.{row, move, idle, no_move, rises};
+ghost use Rattle.rules.specs.Rows.{row, move, idle, rises};
 ghost use Rattle.rules.specs.Moves.{left_of, consumed_of, unmet_of};
 
 // The limits of document 01: resources in a set, states and rows of a table, tables and bytes of a file.
@@ -83,13 +83,6 @@ impl Move {
         ensures { result ≡ idle }
     {
         Move::new(Row::IDLE, 0, Row::FIN)
-    }
-
-    // What stands for a move where there is none, as a row's number does in a step of Run. Its set and its target mean nothing.
-    pub fn none() -> Self
-        ensures { result ≡ no_move }
-    {
-        Move::new(Row::NO_RESPONSE, 0, Row::FIN)
     }
 }
 
