@@ -1,4 +1,4 @@
-// Readers of the file's fields. Each is total: a byte past the end is 0.
+// Readers of the file's fields. Each is total: a byte past the end is 0. They are open to others and cannot fail, so they give no `Option`.
 ghost use Rattle.std.specs.Prelude.{◌≡◌, ◌+◌, ◌*◌, eqb, length};
 ghost use Rattle.tables.specs.File.{byte_at, word_at, tables_of, entry_of, body_length, row_of};
 ghost use Rattle.tables.specs.Kinds.{code_of};
