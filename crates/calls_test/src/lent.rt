@@ -40,7 +40,7 @@ pub(crate) fn entries<F: FnOnce(&mut [u16], &mut [u16]) + Drop>(call: Call, act:
     }
 }
 
-// A slice of bytes, lent to what a call does.
+// A slice of bytes, lent to what a call does: one, where `entries` lends two to a closure of two.
 pub(crate) fn bytes<F: FnOnce(&mut [u8]) + Drop>(call: Call, act: F)
     requires { F.IsAlwaysCallable act }
 {

@@ -6,7 +6,7 @@ use crate::{Question, check_pair};
 use rules::Mode;
 use tables::{Reason, Refusal};
 
-// What turns back a question about a pair in a mode.
+// What turns back a question about a pair in a mode, which is a number here, since a caller may pass any.
 pub fn check_decision(file: &[u8], question: Question, mode: usize) -> Result<(), Refusal>
     ensures { result ≡ mode_checks file.now question mode }
 {
@@ -33,8 +33,5 @@ pub fn number_of(mode: Mode) -> usize
     ensures mode { mode_of result ≡ mode }
     ensures few { result ≤ 1 }
 {
-    match mode {
-        Mode::Full => 0,
-        Mode::Partial => 1,
-    }
+    mode as usize
 }

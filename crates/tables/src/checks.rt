@@ -111,7 +111,7 @@ fn check_row(body: &[u8], n: u8, start: usize, j: usize) -> Result<(), Refusal>
     Ok(())
 }
 
-// The m rows of a body that starts at start, in a table of n states.
+// The m rows of a body that starts at start, in a table of n states. They are counted, as entries are.
 fn check_rows(body: &[u8], n: u8, start: usize, m: usize) -> Result<(), Refusal>
     requires { start + 4 * m ≤ 32866 }
     ensures { result ≡ scan (row_fault body.now n start) m }
@@ -136,7 +136,7 @@ fn check_body_rows(file: &[u8], entry: Entry) -> Result<(), Refusal>
     )
 }
 
-// The bodies of a file of k tables, whose header, contents and length have passed.
+// The bodies of a file of k tables, whose header, contents and length have passed. They are counted, as entries are.
 fn check_bodies(file: &[u8], k: usize) -> Result<(), Refusal>
     requires { Laid file.now k }
     ensures { result ≡ scan (body_fault file.now) k }

@@ -4,8 +4,8 @@ ghost use Rattle.tables.specs.Kinds.{code_of, kind_of};
 
 #[derive(Clone, Copy, PartialEq, Eq)]
 pub enum Kind {
-    Demand,
-    Supply,
+    Demand = 1,
+    Supply = 2,
 }
 
 // A byte that is no kind's.
@@ -17,10 +17,7 @@ impl Kind {
     pub fn code(self) -> u8
         ensures { result ≡ code_of self }
     {
-        match self {
-            Kind::Demand => 1,
-            Kind::Supply => 2,
-        }
+        self as u8
     }
 }
 

@@ -70,7 +70,7 @@ pub fn open(file: &[u8]) -> Result<usize, Refusal>
     Ok(table_count(file))
 }
 
-// Why a call of `body` on the same inputs is turned back.
+// Why a call of `body` on the same inputs is turned back. `let .. else` takes the count of tables from Open's answer, here and wherever a call opens a file.
 pub fn check_body(file: &[u8], table: usize) -> Result<(), Refusal>
     ensures checks { result ≡ body_checks file.now table }
     ensures answer { answer result [] ≡ body_answer file.now table }

@@ -1,6 +1,7 @@
 // Text in a lent buffer: a writer puts piece behind piece, numbers in decimal or hexadecimal among them, as far as the buffer reaches, and counts them
 // past its end. So the same function counts a text, with the shortest of buffers, and writes it. Relies on `rules` for what a slice holds, and on `io`
-// for the digits of a decimal number.
+// for the digits of a decimal number. Numbers and lines are put by hand: what `write!` and a `Display` write is promised of a `String` alone, which needs a
+// heap.
 #![tactic(auto)]
 
 ghost use Rattle.std.specs.Prelude.{◌+◌, ◌^◌, ◌<◌, ◌≡◌, length, take};
