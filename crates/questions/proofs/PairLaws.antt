@@ -6,7 +6,6 @@ use native.Mathlib.Omega.{arith}
 use lib.ListN.{length}
 use borrow.Author.Tests.{leb-false}
 use Rattle.rules.specs.Machines.{Machine, Sound, widen}
-use Rattle.rules.proofs.BelowLaws.{few_pairs}
 use Rattle.rules.proofs.MachineLaws.{widen_none}
 use Rattle.tables.specs.File.{tables_of, entry_of, body_length, body_of}
 use Rattle.tables.specs.Open.{file_fault}
@@ -19,7 +18,6 @@ use Rattle.std.proofs.Common.{Ok}
 use Rattle.machines.specs.declared.machine.Machine.{Machine as Memory}
 use Rattle.machines.specs.Machine.{machine_in}
 use Rattle.machines.specs.Stored.{HasTable}
-use Rattle.machines.proofs.StoredLaws.{few_states}
 use Rattle.questions.specs.declared.Loaded.{Loaded}
 use Rattle.questions.specs.declared.Question.{Question}
 use Rattle.questions.specs.declared.named.Named.{Named}
@@ -90,6 +88,3 @@ loaded_plain s i m e = e ∙ widen_none (machine_of s i)
 module _ {s : List ℕ} {q : Question} {l : Loaded} (x : PairLoaded s q l) {pairs : ℕ} (e : pairs ≡ (machine_in l.demand).n * (machine_in l.supply).n) where
   pub pairs_are : pairs ≡ (demand_of s q).n * (supply_of s q).n
   pairs_are = e ∙ ap₂ (λ (D S : Machine). D.n * S.n) x.demand_is x.supply_is
-
-  pub pairs_few : pairs ≤ 4096
-  pairs_few = rw e (few_pairs (machine_in l.demand).n (machine_in l.supply).n (few_states l.demand) (few_states l.supply))

@@ -96,18 +96,6 @@ module _ {A : Type 0} (p : A → Bool) (other : A) where
       go (inr n) (inl e) more = n (subst (λ (z : A). T (p z)) e h)
       go (inr n) (inr k) more = more k h (subst (R x) (first_miss y ys n) r)
 
-  -- where none passes, it is the other
-  pub first_none : (l : List A) → any p l ≡ false → first p other l ≡ other
-  first_none [] e = refl
-  first_none (x ∷ xs) e =
-      ap (λ (b : Bool). cond b x (first p other xs)) (or_false_l (p x) (any p xs) e) ∙ first_none xs (or_false_r (p x) (any p xs) e)
-
-  -- elements that do not pass are passed over
-  pub first_append : (l r : List A) → any p l ≡ false → first p other (l ++ r) ≡ first p other r
-  first_append [] r e = refl
-  first_append (x ∷ xs) r e =
-      ap (λ (b : Bool). cond b x (first p other (xs ++ r))) (or_false_l (p x) (any p xs) e) ∙ first_append xs r (or_false_r (p x) (any p xs) e)
-
 -- ---- the elements that pass
 
 module _ {A : Type 0} where

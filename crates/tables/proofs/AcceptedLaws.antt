@@ -2,7 +2,7 @@
 use Prim.Native.Nat.{ℕ, zero, suc, ◌+◌, ◌*◌, ◌-◌, ◌≤◌, ◌<◌}
 use mathlib.Core.Path.{◌≡◌, refl, sym, ◌∙◌, ap}
 use mathlib.Core.List.{List, [], ◌∷◌}
-use mathlib.Core.Bool.{true, false, not, ◌||◌}
+use mathlib.Core.Bool.{Bool, true, false, not, ◌||◌}
 use mathlib.Core.Logic.{⊎_elim}
 use native.Mathlib.Nat.{le_of_suc-le-suc, eq-or-lt_of_le}
 use native.Mathlib.Omega.{arith}
@@ -13,6 +13,8 @@ use Rattle.rules.specs.Rows.{rises}
 use Rattle.rules.proofs.Booleans.{or_false_l, or_false_r}
 use Rattle.rules.proofs.RowLaws.{rises_trans}
 use Rattle.tables.specs.declared.Refusal.{Refusal}
+use Rattle.tables.specs.declared.kinds.Kind.{Kind}
+use Rattle.tables.specs.declared.kinds.UnknownKind.{UnknownKind}
 use Rattle.tables.specs.Checks.{Checked, scan}
 use Rattle.tables.specs.Answers.{Answer, answer, counted, carried_out}
 use Rattle.tables.specs.File.{tables_of, entry_place, entry_of, body_length, end_before, body_of, row_of}
@@ -20,7 +22,7 @@ use Rattle.tables.specs.Open.{outside, header_fault, entry_fault, length_fault, 
 use Rattle.tables.specs.Accepted.{TableBody, Accepted, Laid}
 use Rattle.tables.proofs.CheckLaws.{turned_by, fault_passed, passed_fault, then_left, then_right, then_both, scan_each, each_scan}
 use Rattle.tables.proofs.FileLaws.{end_first, end_next, end_upto, end_most, body_length_lem}
-use Rattle.std.proofs.Common.{Ok, Err}
+use Rattle.std.proofs.Common.{Ok, Err, Result}
 use Rattle.std.specs.Result.{is_err}
 use Rattle.tables.specs.Kinds.{kind_of}
 
@@ -50,6 +52,10 @@ unknown_kind (suc (suc (suc n))) =
       lt-ltb 2 (suc (suc (suc n))) (omega arith),
       le-ltb (suc (suc (suc n))) 1 (omega arith),
     )
+
+-- so a look at the kind of a byte tells whether it is outside
+pub outside_kind : (code : ℕ) {r : Result Kind UnknownKind} {b t : Bool} → r ≡ kind_of code → b ≡ is_err r → b ≡ t → outside 1 2 code ≡ t
+outside_kind code e f g = sym (unknown_kind code) ∙ ap is_err (sym e) ∙ sym f ∙ g
 
 not_outside : (low high x : ℕ) → low ≤ x → x ≤ high → outside low high x ≡ false
 unfolding outside

@@ -26,9 +26,6 @@ returns-then-marks-pairs c =
     rw c.new.ensures (as_answer_slice_demands (demands _ _ _ _ _ (Err (refuse NoRoom 0))
     (turned_back_lem _ (refuse NoRoom 0) _ _ _ (short_fault _ _ _ (sym c.check_decision.ensures ∙ c.in_ok-check_decision.was) _ (rw (← pairs) c.if-marks-pairs.true)))))
 
-pub write-summary-requires : goal.write-summary-requires
-write-summary-requires c = rw (← c.pairs.ensures) c.if-marks-pairs.false
-
 pub returns : goal.returns
 returns c =
     let pairs = pairs_are c.load_pair-loaded.ensures (rw (c.sides-sides.ensures.demand, c.sides-sides.ensures.supply) at c.pairs.ensures) in

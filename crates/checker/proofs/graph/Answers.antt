@@ -14,9 +14,6 @@ pub returns-in_err-check_pair : goal.returns-in_err-check_pair
 unfolding graph_checks graph_answer graph_slice
 returns-in_err-check_pair c = rw (handed_on _ _ c.from_residual.ensures.1) (as_answer_slice_demands (graph_shown _ _ _ _ (Err _) (turned_back_lem _ _ _ _ _ (then_fault _ _ _ (sym c.check_pair.ensures ∙ c.in_err-check_pair.was)))))
 
-pub load_pair-loaded-requires : goal.load_pair-loaded-requires
-load_pair-loaded-requires c = sym c.check_pair.ensures ∙ c.in_ok-check_pair.was
-
 pub returns-then-out-extent : goal.returns-then-out-extent
 unfolding graph_answer graph_slice
 returns-then-out-extent c =

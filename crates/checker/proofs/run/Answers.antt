@@ -1,11 +1,10 @@
 -- `checker::run` meets its contract. What turns back the pair or the mode is handed on; then the engine writes the marks and the run along them.
 use mathlib.Core.Path.{sym, ◌∙◌}
-use native.Mathlib.Omega.{arith}
 use Rattle.std.proofs.Common.{Ok, Err}
 use Rattle.tables.specs.Checks.{refuse}
 use Rattle.tables.specs.declared.Reason.TheVariants.{NoRoom}
 use Rattle.tables.proofs.CheckLaws.{handed_on, then_fault}
-use Rattle.questions.proofs.PairLaws.{pairs_are, pairs_few}
+use Rattle.questions.proofs.PairLaws.{pairs_are}
 use Rattle.questions.proofs.ModeLaws.{mode_asked}
 use Rattle.checker.specs.Decide.{decide_checks}
 use Rattle.checker.proofs.DecideLaws.{short_fault}
@@ -25,9 +24,6 @@ returns-then-marks-pairs c =
     let pairs = pairs_are c.load_pair-loaded.ensures (rw (c.sides-sides.ensures.demand, c.sides-sides.ensures.supply) at c.pairs-pairs.ensures) in
     rw c.new.ensures (as_answer_marks_steps_demands (run_shown _ _ _ _ _ (Err (refuse NoRoom 0))
     (run_turned_back _ _ _ (refuse NoRoom 0) _ _ (decide_fault _ _ _ _ _ _ (short_fault _ _ _ (sym c.check_decision.ensures ∙ c.in_ok-check_decision.was) _ (rw (← pairs) c.if-marks-pairs.true))))))
-
-pub overflow_mul-pairs : goal.overflow_mul-pairs
-overflow_mul-pairs c = let few = pairs_few c.load_pair-loaded.ensures (rw (c.sides-sides.ensures.demand, c.sides-sides.ensures.supply) at c.pairs-pairs.ensures) in omega arith
 
 pub returns-then-steps-pairs : goal.returns-then-steps-pairs
 returns-then-steps-pairs c =

@@ -1,5 +1,5 @@
 -- `output::put_part` meets its contract.
-use Rattle.std.proofs.lemmas.List.{take_more, take_all}
+use Rattle.std.proofs.lemmas.List.{take_more}
 use Rattle.output.proofs.NumberLaws.{none_written, one_more}
 use Rattle.output.proofs.put_part.Goals as goal
 
@@ -10,6 +10,3 @@ pub loop-n-preserved : goal.loop-n-preserved
 loop-n-preserved g c =
     let here = c.loop-n-test.true in
     rw (take_more _ _ c.n-item.result here, ← c.n-item.is) (one_more c.loop-n.invariant c.into.ensures c.put.ensures c.put_decimal.ensures)
-
-pub returns : goal.returns
-returns g c = rw (← take_all _ _ c.loop-n-test.false) c.loop-n.invariant
