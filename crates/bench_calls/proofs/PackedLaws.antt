@@ -1,5 +1,5 @@
 -- What is packed, by the case of Decide's answer.
-use Prim.Native.Nat.{◌+◌, ◌*◌, ◌≤◌}
+use Prim.Native.Nat.{◌+◌, ◌*◌}
 use mathlib.Core.Path.{◌≡◌, refl, ap}
 use mathlib.Core.Bool.{Bool, true, false}
 use native.Mathlib.Omega.{arith}
@@ -15,10 +15,6 @@ use Rattle.bench_calls.specs.Packed.{packed}
 as_one : (t : Bool) → bool_byte t ≡ one t
 as_one true = refl
 as_one false = refl
-
-pub flag : (t : Bool) → bool_byte t ≤ 1
-flag true = omega arith
-flag false = omega arith
 
 pub packed_verdict : (v : Verdict) (a : Answer) → decided (Ok v) ≡ a → bool_byte v.yes * 65536 + v.kept * 4294967296 + v.rounds * 281474976710656 ≡ packed a
 packed_verdict v a e = let same = as_one v.yes in let all = ap packed e in omega arith
