@@ -8,7 +8,7 @@ ghost use Rattle.bench_calls.specs.Packed.{asked, packed};
 
 use checker::{Question, Side};
 
-// Decide, from the same state of both tables, by the mode's number: its answer as one number, and the marks as it writes them.
+// Decide, from the same state of both tables, by the mode's number, since any may be passed: its answer as one number, and the marks as it writes them.
 #[unsafe(no_mangle)]
 pub extern "C" fn bench_decide(
     file: &[u8],

@@ -27,7 +27,7 @@ pub fn mode_of(number: usize) -> Mode
     Mode::Partial
 }
 
-// The number of a mode.
+// The number of a mode; the name says so, where `usize::from` would not.
 #[tactic(auto, unfolding(crate::specs::Modes::mode_of))]
 pub fn number_of(mode: Mode) -> usize
     ensures mode { mode_of result ≡ mode }
