@@ -13,7 +13,7 @@ use questions::{Question, Side};
 // The bytes of a head.
 const HEAD: usize = 64;
 
-// A call that is asked for, with what it takes: the mode's number, which may be any, tables and states, the lengths of the slices that it is lent, and the file.
+// A call that is asked for, with what it takes: the mode's number, which may be any, tables and states, the lengths of the lent slices, and the file.
 #[derive(Clone, Copy)]
 pub struct Call<'a> {
     pub operation: Operation,
