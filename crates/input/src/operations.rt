@@ -25,6 +25,7 @@ impl TryFrom<usize> for Operation {
 
     ghost try_from_gives = { λ number found. found ≡ operation_of number };
 
+    #[tactic(auto, unfolding(crate::specs::Operations::operation_of))]
     fn try_from(number: usize) -> Result<Self, UnknownOperation> {
         match number {
             0 => Ok(Operation::Open),
