@@ -1,7 +1,7 @@
 -- Laws of lists, sums and largest values below a number, and of counts of pairs. Relies on nothing.
 use Prim.Native.Nat.{ℕ, zero, suc, ◌+◌, ◌-◌, ◌*◌, ◌/◌, ◌%◌, ◌≤◌, ◌<◌, max}
 use mathlib.Core.Path.{◌≡◌, refl, sym, ap, ap₂, ◌∙◌, subst}
-use mathlib.Core.Bool.{Bool, true, false, not}
+use mathlib.Core.Bool.{Bool, true, false, not, ◌&&◌}
 use mathlib.Core.List.Memᴰ
 use mathlib.Core.List.{List, [], ◌∷◌, ◌++◌, map, append-nil, append_assoc, Memᴰ}
 use mathlib.Core.Logic.{◌⊎◌, inl, inr}
@@ -235,6 +235,12 @@ pub one_not : (b : Bool) → one b + one (not b) ≡ 1
 one_not true = refl
 one_not false = refl
 
+-- a test narrower than another, and what it leaves of that, count as that one does
+pub one_narrowed : (a b : Bool) → (T b → T a) → one b + one (a && not b) ≡ one a
+one_narrowed true b f = one_not b
+one_narrowed false true f = absurd (f tt)
+one_narrowed false false f = refl
+
 -- ---- counts of pairs of states
 
 module _ (D S : Machine) (p q : ℕ → ℕ → Bool) where
@@ -261,13 +267,19 @@ module _ (D S : Machine) (p q : ℕ → ℕ → Bool) where
       sum-cong D.n (λ t. sum_below S.n (λ s. one (p t s))) (λ t. sum_below S.n (λ s. one (q t s)))
       (λ t l. sum-cong S.n (λ s. one (p t s)) (λ s. one (q t s)) (λ s k. ap one (h t s l k)))
 
+-- where each pair counts for a third test what it counts for two together, so do all pairs
+pub count_add : (D S : Machine) (p q r : ℕ → ℕ → Bool) → ((t s : ℕ) → t < D.n → s < S.n → one (p t s) + one (q t s) ≡ one (r t s))
+    → count_pairs D S p + count_pairs D S q ≡ count_pairs D S r
+unfolding count_pairs
+count_add D S p q r h =
+    sym (sum-add D.n (λ t. sum_below S.n (λ s. one (p t s))) (λ t. sum_below S.n (λ s. one (q t s))))
+    ∙ sum-cong D.n (λ t. sum_below S.n (λ s. one (p t s)) + sum_below S.n (λ s. one (q t s))) (λ t. sum_below S.n (λ s. one (r t s)))
+    (λ t l. sym (sum-add S.n (λ s. one (p t s)) (λ s. one (q t s))) ∙ sum-cong S.n (λ s. one (p t s) + one (q t s)) (λ s. one (r t s)) (λ s k. h t s l k))
+
+pub count_all : (D S : Machine) → count_pairs D S (λ t s. true) ≡ D.n * S.n
+unfolding count_pairs
+count_all D S = sum-cong D.n (λ t. sum_below S.n (λ s. 1)) (λ t. S.n) (λ t l. sum-const S.n 1 ∙ mul-one S.n) ∙ sum-const D.n S.n
+
 -- those that pass and those that fail are all
 pub count_not : (D S : Machine) (p : ℕ → ℕ → Bool) → count_pairs D S p + count_pairs D S (λ t s. not (p t s)) ≡ D.n * S.n
-unfolding count_pairs
-count_not D S p =
-    sym (sum-add D.n (λ t. sum_below S.n (λ s. one (p t s))) (λ t. sum_below S.n (λ s. one (not (p t s)))))
-    ∙ sum-cong D.n (λ t. sum_below S.n (λ s. one (p t s)) + sum_below S.n (λ s. one (not (p t s)))) (λ t. S.n)
-    (λ t l. sym (sum-add S.n (λ s. one (p t s)) (λ s. one (not (p t s))))
-    ∙ sum-cong S.n (λ s. one (p t s) + one (not (p t s))) (λ s. 1) (λ s k. one_not (p t s))
-    ∙ sum-const S.n 1 ∙ mul-one S.n)
-    ∙ sum-const D.n S.n
+count_not D S p = count_add D S p (λ t s. not (p t s)) (λ t s. true) (λ t s l k. one_not (p t s)) ∙ count_all D S

@@ -88,6 +88,13 @@ pub or_none : (a : Bool) → (a || false) ≡ a
 or_none true = refl
 or_none false = refl
 
+-- a test as what another leaves of itself
+pub narrowed : (a b : Bool) → (T b → T a) → (a && not (a && not b)) ≡ b
+narrowed true true f = refl
+narrowed true false f = refl
+narrowed false true f = absurd (f tt)
+narrowed false false f = refl
+
 pub or_false_l : (a b : Bool) → a || b ≡ false → a ≡ false
 or_false_l true b e = e
 or_false_l false b e = refl

@@ -12,11 +12,12 @@ use Rattle.rules.specs.Sets.{intersection, union, disjoint, difference, inside, 
 use Rattle.rules.specs.Rows.{rises}
 use Rattle.rules.specs.Machines.{Table, row_moves, state_moves, machine}
 use Rattle.rules.specs.Moves.{left_of, consumed_of, unmet_of, candidates, prunes, survivors_of, survivors, numbers}
-use Rattle.rules.specs.Rounds.{has_response, slot_holds, pair_holds, is_pair, keeps, mark_by, mark, marks}
+use Rattle.rules.specs.Below.{list_below}
+use Rattle.rules.specs.Rounds.{has_response, slot_holds, pair_holds, is_pair, keeps, losing, mark_by, mark, marks, count_pairs, running_count}
 use Rattle.rules.specs.Steps.{follows, struck_by, lacks_response, step_to, last_slot, slots, steps}
 use Rattle.rules.specs.Join.{insert_row, insert_rows, join_rows, join}
 use Rattle.rules.specs.Examples.{demand_e, supply_e, fin_only, demand_fifth, demand_sixth, then_fin, once, at_most_once, repeated, two_slots, one_or_two, stuck_supply, nothing_or_one, examples}
-use Rattle.rules.specs.Examples.{Example, Means, moves_are, marks_are, says_yes, says_no, run_is, join_is, join_count, is_stuck}
+use Rattle.rules.specs.Examples.{Example, Means, moves_are, marks_are, counts_are, says_yes, says_no, run_is, join_is, join_count, is_stuck}
 use Rattle.rules.proofs.Booleans.{eq-T, and_l, and_r}
 use Rattle.rules.proofs.ListLaws.{all-each}
 
@@ -67,6 +68,7 @@ same_numbers = same_list eqb eqb→eq
 test : Example → Bool
 test (moves_are D S t s l) = same_numbers (flat_map numbers (survivors (machine D) (machine S) t s)) l
 test (marks_are mode D S l) = same_numbers (marks mode (machine D) (machine S)) l
+test (counts_are mode D S l) = same_numbers (list_below (length l) (running_count mode (machine D) (machine S))) l
 test (says_yes mode D S t s) = ltb t D.n && (ltb s S.n && eqb (mark mode (machine D) (machine S) t s) 0)
 test (says_no mode D S t s) = ltb t D.n && (ltb s S.n && not (eqb (mark mode (machine D) (machine S) t s) 0))
 test (run_is mode D S t s l) = same_numbers (steps mode (machine D) (machine S) t s) l
@@ -88,6 +90,7 @@ tested : (e : Example) → T (test e) → Means e
 unfolding test Means same_numbers
 tested (moves_are D S t s l) h = equal_list eqb eqb→eq (flat_map numbers (survivors (machine D) (machine S) t s)) l h
 tested (marks_are mode D S l) h = equal_list eqb eqb→eq (marks mode (machine D) (machine S)) l h
+tested (counts_are mode D S l) h = equal_list eqb eqb→eq (list_below (length l) (running_count mode (machine D) (machine S))) l h
 tested (says_yes mode D S t s) h = states t s D.n S.n (eqb (mark mode (machine D) (machine S) t s) 0) (eqb→eq (mark mode (machine D) (machine S) t s) 0) h
 tested (says_no mode D S t s) h =
     states t s D.n S.n (not (eqb (mark mode (machine D) (machine S) t s) 0))
@@ -100,7 +103,7 @@ tested (is_stuck A q) h =
     (ltb→lt q A.n (and_l (ltb q A.n) empty h), empty_list (state_moves A.rows q) (and_r (ltb q A.n) empty h))
 
 passed : T (all test examples)
-unfolding examples test same_numbers same_list same_table same_row flat_map demand_e supply_e fin_only demand_fifth demand_sixth then_fin once at_most_once repeated two_slots one_or_two stuck_supply nothing_or_one intersection union difference inside larger maximal rises row_moves state_moves left_of consumed_of unmet_of candidates prunes survivors_of numbers has_response slot_holds pair_holds is_pair keeps mark_by mark marks follows struck_by lacks_response step_to last_slot slots steps disjoint insert_row insert_rows join_rows join
+unfolding examples test same_numbers same_list same_table same_row flat_map demand_e supply_e fin_only demand_fifth demand_sixth then_fin once at_most_once repeated two_slots one_or_two stuck_supply nothing_or_one intersection union difference inside larger maximal rises row_moves state_moves left_of consumed_of unmet_of candidates prunes survivors_of numbers has_response slot_holds pair_holds is_pair keeps losing mark_by mark marks count_pairs running_count follows struck_by lacks_response step_to last_slot slots steps disjoint insert_row insert_rows join_rows join
 passed = tt
 
 -- every example of the table holds
