@@ -5,7 +5,9 @@ use crate::file::{open, refuse, Kind, Refusal, Row, Table, MOST_ROWS, MOST_STATE
 use crate::graph::{graph, Graph};
 use crate::question::{Operation, Question, HEAD_LENGTH};
 use crate::report::report;
-use crate::rules::{combined_moves, count_kept, join, marks, rounds, run, Mode, Pair, Tables};
+use crate::rules::{
+    combined_moves, count_kept, explain, join, marks, rounds, run, Mode, Pair, Tables, Triple,
+};
 
 /// The expected output of a program, with what is counted of it.
 #[derive(Default)]
@@ -16,6 +18,7 @@ pub struct Answer {
     pub decisions: Vec<Decision>,
     /// The graph that the output tells of, where there is one.
     pub graph: Option<Graph>,
+    pub explanation: Option<Explanation>,
 }
 
 impl Answer {
@@ -34,6 +37,13 @@ pub struct Decision {
     pub steps: usize,
 }
 
+/// What explains the mark of a pair.
+pub struct Explanation {
+    pub mode: Mode,
+    pub mark: u16,
+    pub triples: Vec<Triple>,
+}
+
 /// What was lent, for the call to write into.
 struct Lent {
     first: Vec<u16>,
@@ -47,6 +57,7 @@ struct Returned {
     part: Vec<u8>,
     decisions: Vec<Decision>,
     graph: Option<Graph>,
+    explanation: Option<Explanation>,
 }
 
 fn returned(values: Vec<usize>) -> Returned {
@@ -73,13 +84,14 @@ pub fn answer(input: &[u8]) -> Answer {
     match question.operation {
         Operation::Open => {}
         Operation::Body => push_line(&mut text, &done.part),
-        Operation::Moves | Operation::Decide | Operation::Run => {
+        Operation::Moves | Operation::Decide | Operation::Run | Operation::Explain => {
             push_line(&mut text, &lent.first);
             push_line(&mut text, &lent.second);
         }
         _ => push_line(&mut text, &lent.first),
     }
-    Answer { text, number: Some(number), decisions: done.decisions, graph: done.graph }
+    let Returned { decisions, graph, explanation, .. } = done;
+    Answer { text, number: Some(number), decisions, graph, explanation }
 }
 
 /// An answer that is never turned back.
@@ -157,7 +169,7 @@ fn lend(question: &Question) -> Lent {
         Operation::Join | Operation::Report | Operation::Graph => {
             Lent { first: bytes(question.first_length), second: Vec::new() }
         }
-        Operation::Moves | Operation::Decide | Operation::Run => Lent {
+        Operation::Moves | Operation::Decide | Operation::Run | Operation::Explain => Lent {
             first: numbers(question.first_length),
             second: numbers(question.second_length),
         },
@@ -175,6 +187,7 @@ fn call(question: &Question, file: &[u8], lent: &mut Lent) -> Result<Returned, R
         Operation::Run => call_run(question, &opened?, lent),
         Operation::Join => call_join(question, &opened?, lent),
         Operation::Graph => call_graph(question, &opened?, lent),
+        Operation::Explain => call_explain(question, &opened?, lent),
         _ => call_report(file, lent),
     }
 }
@@ -328,6 +341,33 @@ fn call_graph(
     put_bytes(text.as_bytes(), lent);
     let values = vec![text.len()];
     Ok(Returned { values, graph: Some(graph), ..Returned::default() })
+}
+
+fn call_explain(
+    question: &Question,
+    tables: &[Table],
+    lent: &mut Lent,
+) -> Result<Returned, Refusal> {
+    let (tables, pair) = tables_and_pair(question, tables)?;
+    let mode = mode_of(question)?;
+    let count = tables.count_of_pairs();
+    if lent.first.len() < count {
+        return refuse(14, 0);
+    }
+    let marks = marks(tables, mode);
+    let triples = explain(tables, mode, &marks, pair);
+    if lent.second.len() < 3 * triples.len() {
+        return refuse(14, 0);
+    }
+    lent.first[..count].copy_from_slice(&marks);
+    for (index, triple) in triples.iter().enumerate() {
+        lent.second[3 * index] = triple.supply_row;
+        lent.second[3 * index + 1] = triple.task_row;
+        lent.second[3 * index + 2] = triple.mark;
+    }
+    let values = vec![triples.len()];
+    let explanation = Some(Explanation { mode, mark: marks[tables.entry(pair)], triples });
+    Ok(Returned { values, explanation, ..Returned::default() })
 }
 
 /// Writes bytes at the start of the first slice lent.

@@ -68,6 +68,7 @@ fn question_of(word: &str, words: &mut Words) -> Result<Question, String> {
         "moves" => pair_question(Operation::Moves, words),
         "decide" => pair_question(Operation::Decide, words),
         "run" => pair_question(Operation::Run, words),
+        "explain" => pair_question(Operation::Explain, words),
         "graph" => pair_question(Operation::Graph, words),
         "join" => {
             let (first_table, second_table) = (words.number()?, words.number()?);
@@ -84,10 +85,10 @@ fn question_of(word: &str, words: &mut Words) -> Result<Question, String> {
 }
 
 /// `[MODE] DEMAND SUPPLY from STATE STATE room ENTRIES [ENTRIES]`, the mode for
-/// Decide and Run, the second number of entries for Run.
+/// Decide, Run and Explain, the second number of entries for Run and Explain.
 fn pair_question(operation: Operation, words: &mut Words) -> Result<Question, String> {
     let mut question = blank(operation);
-    if [Operation::Decide, Operation::Run].contains(&operation) {
+    if [Operation::Decide, Operation::Run, Operation::Explain].contains(&operation) {
         question.mode = match words.peek() {
             "full" | "partial" => (words.take()? == "partial") as usize,
             _ => words.number()?,
@@ -101,7 +102,7 @@ fn pair_question(operation: Operation, words: &mut Words) -> Result<Question, St
     words.take_this("room")?;
     question.first_length = words.number()?;
     question.second_length = match operation {
-        Operation::Run => words.number()?,
+        Operation::Run | Operation::Explain => words.number()?,
         Operation::Graph => IGNORED,
         _ => 0,
     };

@@ -1,5 +1,5 @@
 //! Questions for `calls_test`: right ones, ones with faults, ones at the limits
-//! of joining and of the moves of a pair, reports, and graphs.
+//! of joining, of moves and of triples, reports, and graphs.
 
 use crate::drafts::{draft, file_of, table_with_rows, Draft, DEMAND, SUPPLY};
 use crate::file::{open, Kind, Table, MOST_STATES};
@@ -7,7 +7,7 @@ use crate::graph::graph;
 use crate::question::{Operation, Question};
 use crate::random::Random;
 use crate::report::report;
-use crate::rules::{combined_moves, join, Pair, Tables};
+use crate::rules::{combined_moves, explain, join, marks, Mode, Pair, Tables};
 
 /// The longest slice that a question can ask for.
 const LONGEST_SLICE: usize = 65_535;
@@ -51,6 +51,7 @@ pub fn operations_and_faults() -> Vec<(Operation, Fault)> {
         (Operation::Run, 9),
         (Operation::Join, 8),
         (Operation::Graph, 8),
+        (Operation::Explain, 9),
     ] {
         all.extend(ALL_FAULTS[..faults].iter().map(|fault| (operation, *fault)));
     }
@@ -62,7 +63,7 @@ pub fn operations_and_faults() -> Vec<(Operation, Fault)> {
 pub fn likely_question(random: &mut Random, file: &[u8], operation: Operation) -> Question {
     let mut question = exact_question(random, file, operation);
     question.first_length = length_near(random, question.first_length);
-    if operation == Operation::Run {
+    if [Operation::Run, Operation::Explain].contains(&operation) {
         question.second_length = length_near(random, question.second_length);
     }
     if random.chance(1, 32) {
@@ -152,6 +153,12 @@ fn set_exact_lengths(question: &mut Question, first: &Table, second: &Table) {
         }
         Operation::Graph => {
             question.first_length = graph(tables, pair).text().len().min(LONGEST_SLICE);
+        }
+        Operation::Explain => {
+            let mode = if question.mode == 0 { Mode::Full } else { Mode::Partial };
+            let count = explain(tables, mode, &marks(tables, mode), pair).len();
+            question.first_length = count_of_pairs;
+            question.second_length = (3 * count).min(LONGEST_SLICE);
         }
         _ => {}
     }
@@ -349,6 +356,51 @@ fn granting_rows(count: usize) -> Draft {
     let rows: Vec<(usize, usize, u16)> =
         (0..count).map(|index| (1, index % 64, (index / 64) as u16)).collect();
     draft(SUPPLY, 64, &rows)
+}
+
+/// How many questions `wide_triples` makes.
+pub const WIDE_TRIPLES: usize = 6;
+
+/// Explain of a kept pair with very many triples: around the longest slice, and
+/// with three times the count, or the count itself, at or above 65,536. `which`
+/// counts below `WIDE_TRIPLES`.
+pub fn wide_triples(which: usize) -> (Vec<u8>, Question) {
+    let (demand, supply, second_length) = match which {
+        0 => (257, 85, 65_535),
+        1 => (257, 85, 65_534),
+        2 => (331, 66, 65_535),
+        3 => (331, 66, 2),
+        4 => (512, 128, 0),
+        _ => (512, 42, 65_000),
+    };
+    let question = Question {
+        operation: Operation::Explain,
+        mode: 0,
+        first_table: 0,
+        demand_state: 1,
+        second_table: 1,
+        supply_state: 1,
+        first_length: 10,
+        second_length,
+    };
+    (file_of(&[fitting_rows(demand), holding_rows(supply)]), question)
+}
+
+/// So many rows from state 1, with sets of five of resources 0 to 10: none lies
+/// strictly inside another.
+fn fitting_rows(count: usize) -> Draft {
+    let fives = (0..2048).filter(|set: &u16| set.count_ones() == 5);
+    let rows = fives.flat_map(|set| [(1, 0, set), (1, 1, set)]).take(count);
+    draft(DEMAND, 2, &rows.collect::<Vec<(usize, usize, u16)>>())
+}
+
+/// So many rows from state 1, up to 128, that grant resources 0 to 10 and others,
+/// to states that lead back to it.
+fn holding_rows(count: usize) -> Draft {
+    let row = |index: usize| (1, 1 + index / 32, 2047 + 2048 * (index % 32) as u16);
+    let mut rows: Vec<(usize, usize, u16)> = (0..count).map(row).collect();
+    rows.extend((2..5).map(|state| (state, 1, 2047)));
+    draft(SUPPLY, 5, &rows)
 }
 
 /// How many lengths `report_question` asks for.

@@ -3,7 +3,7 @@
 
 use crate::calls::{
     faulty_question, join_at_limit, likely_question, operations_and_faults, report_question,
-    wide_moves, REPORT_LENGTHS, WIDE,
+    wide_moves, wide_triples, REPORT_LENGTHS, WIDE, WIDE_TRIPLES,
 };
 use crate::drafts::{
     branching, cycles_or_chain, file_of, largest_tables, odd_tables, random_tables,
@@ -79,18 +79,18 @@ const ROTATION: [Kind; 31] = [
     kind("aut, file with faults or at a limit", 1, aut_faulty),
     kind("aut, long text, long input or pieces", 1, aut_long),
     kind("calls, random tables", 3, calls_random),
-    kind("calls, Run on cycles and chains", 1, calls_cycles),
+    kind("calls, Run or Explain on cycles and chains", 2, calls_cycles),
     kind("calls, branching tables", 3, calls_branching),
     kind("calls, odd tables", 1, calls_odd),
     kind("calls, kinds in any order", 1, calls_any_order),
-    kind("calls, file with faults", 6, calls_faulty_file),
+    kind("calls, file with faults", 7, calls_faulty_file),
     kind("calls, two faults in order", 1, calls_two_faults),
-    kind("calls, question with faults", 3, calls_faulty_question),
+    kind("calls, question with faults", 4, calls_faulty_question),
     kind("calls, damaged file or random bytes", 1, calls_damaged),
     kind("calls, file at a limit", 1, calls_limit),
     kind("calls, Join of random tables", 1, calls_join),
     kind("calls, Join at a limit", 1, calls_join_limit),
-    kind("calls, very many moves", 1, calls_wide),
+    kind("calls, very many moves or triples", 1, calls_wide),
     kind("calls, Report", 3, calls_report),
     kind("calls, Graph", 3, calls_graph),
     kind("calls, no whole question", 1, calls_nothing),
@@ -225,19 +225,26 @@ fn aut_long(random: &mut Random, turn: usize) -> Made {
 }
 
 fn calls_random(random: &mut Random, turn: usize) -> Made {
-    let asked = [Operation::Decide, Operation::Run, Operation::Moves, Operation::Run];
-    let operation = match turn % 9 {
-        8 => any_operation(random),
-        place => asked[place % 4],
+    let asked = [
+        Operation::Decide,
+        Operation::Run,
+        Operation::Moves,
+        Operation::Explain,
+        Operation::Run,
+    ];
+    let operation = match turn % 11 {
+        10 => any_operation(random),
+        place => asked[place % asked.len()],
     };
     let file = file_of(&random_tables(random));
     for_calls(likely_question(random, &file, operation).before(&file))
 }
 
 fn calls_cycles(random: &mut Random, turn: usize) -> Made {
-    let file = file_of(&cycles_or_chain(random, turn));
-    let mut question = likely_question(random, &file, Operation::Run);
-    if turn == 0 {
+    let file = file_of(&cycles_or_chain(random, turn / 2));
+    let operation = [Operation::Run, Operation::Explain][turn % 2];
+    let mut question = likely_question(random, &file, operation);
+    if turn < 2 {
         (question.demand_state, question.supply_state) = (1, 1);
         (question.first_length, question.second_length) = (64 * 63, 2 * 64 * 63);
     }
@@ -245,15 +252,22 @@ fn calls_cycles(random: &mut Random, turn: usize) -> Made {
 }
 
 fn calls_branching(random: &mut Random, turn: usize) -> Made {
-    let asked = [Operation::Run, Operation::Moves, Operation::Run, Operation::Decide];
+    let asked = [
+        Operation::Run,
+        Operation::Explain,
+        Operation::Moves,
+        Operation::Run,
+        Operation::Explain,
+        Operation::Decide,
+    ];
     let file = file_of(&branching(random));
-    for_calls(likely_question(random, &file, asked[turn % 4]).before(&file))
+    for_calls(likely_question(random, &file, asked[turn % asked.len()]).before(&file))
 }
 
 fn calls_odd(random: &mut Random, turn: usize) -> Made {
-    let asked = [Operation::Run, Operation::Moves, Operation::Decide];
+    let asked = [Operation::Run, Operation::Moves, Operation::Decide, Operation::Explain];
     let file = file_of(&odd_tables(random));
-    for_calls(likely_question(random, &file, asked[turn % 3]).before(&file))
+    for_calls(likely_question(random, &file, asked[turn % asked.len()]).before(&file))
 }
 
 fn any_operation(random: &mut Random) -> Operation {
@@ -326,8 +340,12 @@ fn calls_join_limit(random: &mut Random, turn: usize) -> Made {
     for_calls(question.before(&file))
 }
 
-/// Long answers, so only every third case is one of the largest.
+/// Long answers, so only every other case is one of the largest.
 fn calls_wide(random: &mut Random, turn: usize) -> Made {
+    if turn % 6 == 1 {
+        let (file, question) = wide_triples(turn / 6 % WIDE_TRIPLES);
+        return for_calls(question.before(&file));
+    }
     if turn % 3 == 0 {
         let (file, question) = wide_moves(random, turn / 3 % WIDE);
         return for_calls(question.before(&file));
@@ -363,7 +381,7 @@ fn calls_graph(random: &mut Random, turn: usize) -> Made {
     for_calls(likely_question(random, &file, Operation::Graph).before(&file))
 }
 
-/// Questions shorter than a head, and operations above 9; also whole ones that
+/// Questions shorter than a head, and operations above 10; also whole ones that
 /// come in pieces.
 fn calls_nothing(random: &mut Random, turn: usize) -> Made {
     let file = sound_file(random);
@@ -381,5 +399,5 @@ fn calls_nothing(random: &mut Random, turn: usize) -> Made {
 }
 
 fn unknown_operation(random: &mut Random) -> u64 {
-    random.pick(&[10, 11, 255, 256, 1 << 32, u64::MAX])
+    random.pick(&[11, 12, 255, 256, 1 << 32, u64::MAX])
 }

@@ -28,7 +28,7 @@ pub fn due_of(mut words: Words) -> Result<Due, String> {
             words.take_this("at")?;
             due.place = words.number()?;
         }
-        "tables" | "moves" | "steps" | "bytes" => due.values = vec![words.number()?],
+        "tables" | "moves" | "steps" | "triples" | "bytes" => due.values = vec![words.number()?],
         "states" => {
             due.values = vec![words.number()?];
             words.take_this("rows")?;
@@ -53,7 +53,7 @@ impl Due {
     pub fn add(&mut self, words: &mut Words) -> Result<(), String> {
         match &words.take()?[..] {
             "move" | "marks" | "entry" | "constants" => take_numbers(words, &mut self.first),
-            "step" | "row" => take_numbers(words, &mut self.second),
+            "step" | "triple" | "row" => take_numbers(words, &mut self.second),
             "rows" => {
                 self.bytes.extend(words.rows()?.iter().flat_map(body_form));
                 Ok(())
@@ -82,7 +82,7 @@ impl Due {
             Operation::Open => {}
             Operation::Readers | Operation::Constants => return Ok(self.numbers(question)),
             Operation::Body => push_line(&mut text, &self.bytes),
-            Operation::Moves | Operation::Decide | Operation::Run => {
+            Operation::Moves | Operation::Decide | Operation::Run | Operation::Explain => {
                 push_line(&mut text, &entries_due(&self.first, question.first_length)?);
                 push_line(&mut text, &entries_due(&self.second, question.second_length)?);
             }

@@ -15,10 +15,11 @@ pub enum Operation {
     Readers,
     Constants,
     Graph,
+    Explain,
 }
 
 /// All operations, each at its number.
-pub const OPERATIONS: [Operation; 10] = [
+pub const OPERATIONS: [Operation; 11] = [
     Operation::Open,
     Operation::Body,
     Operation::Moves,
@@ -29,10 +30,11 @@ pub const OPERATIONS: [Operation; 10] = [
     Operation::Readers,
     Operation::Constants,
     Operation::Graph,
+    Operation::Explain,
 ];
 
 /// Those that random cases ask for.
-pub const RANDOM_OPERATIONS: [Operation; 8] = [
+pub const RANDOM_OPERATIONS: [Operation; 9] = [
     Operation::Open,
     Operation::Body,
     Operation::Moves,
@@ -41,6 +43,7 @@ pub const RANDOM_OPERATIONS: [Operation; 8] = [
     Operation::Join,
     Operation::Report,
     Operation::Graph,
+    Operation::Explain,
 ];
 
 #[derive(Clone, Copy)]

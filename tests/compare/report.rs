@@ -27,7 +27,7 @@ fn report_file(file: &[u8]) -> Result<Answer, Refusal> {
         text += &lines;
         decisions.push(decision);
     }
-    Ok(Answer { text, number: Some(0), decisions, graph: None })
+    Ok(Answer { text, number: Some(0), decisions, ..Answer::default() })
 }
 
 /// The number of the first table of a kind; a missing kind is 12 at 0.

@@ -1,16 +1,26 @@
 //! Counts what the cases covered, and prints it.
 
-use crate::answers::{Answer, Decision};
+use crate::answers::{Answer, Decision, Explanation};
 use crate::cases::Program;
 use crate::question::Question;
-use crate::rules::Mode;
+use crate::rules::{Mode, NO_ROW};
 
-const COLUMNS: [&str; 12] = [
+const COLUMNS: [&str; 13] = [
     "slots", "aut", "Open", "Body", "Moves", "Decide", "Run", "Join", "Report", "Readers",
-    "Constants", "Graph",
+    "Constants", "Graph", "Explain",
 ];
 const NUMBERS: usize = 18;
 const VERDICTS: [&str; 3] = ["full yes", "full no with partial yes", "partial no"];
+/// What is explained; the last counts beside one of the others.
+const EXPLANATIONS: [&str; 7] = [
+    "kept in full mode",
+    "kept in partial mode",
+    "above mark 1 in full mode",
+    "above mark 1 in partial mode",
+    "at mark 1 beside a move",
+    "at mark 1 beside a stuck supply",
+    "with different marks above 0",
+];
 /// Some run must have so many steps or more.
 const LONG_RUN: usize = 3_906;
 /// Some text of `aut` must have so many bytes or more.
@@ -26,6 +36,7 @@ pub struct Tally {
     longest_run: usize,
     longest_text: usize,
     verdicts_of_slots: [usize; VERDICTS.len()],
+    explanations: [usize; EXPLANATIONS.len()],
 }
 
 impl Tally {
@@ -40,6 +51,7 @@ impl Tally {
             longest_run: 0,
             longest_text: 0,
             verdicts_of_slots: [0; VERDICTS.len()],
+            explanations: [0; EXPLANATIONS.len()],
         }
     }
 
@@ -55,6 +67,9 @@ impl Tally {
         }
         for decision in &answer.decisions {
             self.count_decision(decision);
+        }
+        if let Some(explanation) = &answer.explanation {
+            self.count_explanation(explanation);
         }
         if program == Program::Aut {
             self.longest_text = self.longest_text.max(answer.text.len());
@@ -75,6 +90,21 @@ impl Tally {
         self.longest_run = self.longest_run.max(decision.steps);
     }
 
+    fn count_explanation(&mut self, explanation: &Explanation) {
+        let triples = &explanation.triples;
+        let kind = match (explanation.mark, explanation.mode) {
+            (0, Mode::Full) => 0,
+            (0, Mode::Partial) => 1,
+            (1, _) => 4 + triples.iter().any(|triple| triple.supply_row == NO_ROW) as usize,
+            (_, Mode::Full) => 2,
+            (_, Mode::Partial) => 3,
+        };
+        self.explanations[kind] += 1;
+        let mut above = triples.iter().map(|triple| triple.mark).filter(|mark| *mark > 0);
+        let first = above.next();
+        self.explanations[6] += above.any(|mark| Some(mark) != first) as usize;
+    }
+
     /// Takes in the counts of another tally.
     pub fn add(&mut self, other: &Tally) {
         for number in 0..NUMBERS {
@@ -84,6 +114,9 @@ impl Tally {
         }
         for verdict in 0..VERDICTS.len() {
             self.verdicts_of_slots[verdict] += other.verdicts_of_slots[verdict];
+        }
+        for kind in 0..EXPLANATIONS.len() {
+            self.explanations[kind] += other.explanations[kind];
         }
         self.nothing_printed += other.nothing_printed;
         self.full_yes += other.full_yes;
@@ -114,18 +147,14 @@ impl Tally {
         println!("questions to which nothing is printed: {}", self.nothing_printed);
         println!("full: {} yes, {} no", self.full_yes, self.full_no);
         println!("partial: {} yes, {} no", self.partial_yes, self.partial_no);
-        let words: Vec<String> = VERDICTS
-            .iter()
-            .zip(self.verdicts_of_slots)
-            .map(|(name, count)| format!("{count} {name}"))
-            .collect();
-        println!("slots: {}", words.join(", "));
+        println!("slots: {}", listed(&VERDICTS, &self.verdicts_of_slots));
+        println!("explained: {}", listed(&EXPLANATIONS, &self.explanations));
         println!("longest run: {} steps", self.longest_run);
         println!("longest text of aut: {} bytes", self.longest_text);
     }
 
     /// What no case hit, as sentences: numbers of the calls, verdicts of `slots`,
-    /// a long run, a long text.
+    /// explanations, a long run, a long text.
     pub fn missing(&self) -> Vec<String> {
         let mut sentences = Vec::new();
         for number in 0..NUMBERS {
@@ -140,6 +169,11 @@ impl Tally {
                 sentences.push(format!("no case of slots was {name}"));
             }
         }
+        for (name, count) in EXPLANATIONS.iter().zip(self.explanations) {
+            if count == 0 {
+                sentences.push(format!("no pair {name} was explained"));
+            }
+        }
         if self.longest_run < LONG_RUN {
             sentences.push(format!("no run had {LONG_RUN} steps or more"));
         }
@@ -148,6 +182,13 @@ impl Tally {
         }
         sentences
     }
+}
+
+/// Counts with their names.
+fn listed(names: &[&str], counts: &[usize]) -> String {
+    let words: Vec<String> =
+        names.iter().zip(counts).map(|(name, count)| format!("{count} {name}")).collect();
+    words.join(", ")
 }
 
 /// Whether the call of a column can answer a number.

@@ -47,6 +47,12 @@ pub(crate) fn run(call: Call) {
     });
 }
 
+pub(crate) fn explain(call: Call) {
+    lent::entries(call, |marks, triples| {
+        tell_count(checker::explain(call.file, call.question, call.mode, marks, triples));
+    });
+}
+
 pub(crate) fn join(call: Call) {
     let first = call.question.demand.table;
     let second = call.question.supply.table;

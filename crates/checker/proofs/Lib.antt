@@ -3,4 +3,5 @@ pub mod GraphLaws
 pub mod DecideLaws
 pub mod DemandLaws
 pub mod RunLaws
+pub mod ExplainLaws
 pub mod JoinLaws

@@ -14,9 +14,9 @@ use Rattle.rules.proofs.MachineLaws.{moves_rise}
 use Rattle.rules.proofs.StepLaws.{run_is, run_length, run_blocked, length-steps}
 use Rattle.tables.specs.declared.Refusal.{Refusal}
 use Rattle.tables.specs.Checks.{Checked, refuse, fault, ◌then◌}
-use Rattle.tables.specs.Answers.{answer, turned_back, carried_out, slice_after}
+use Rattle.tables.specs.Answers.{answer, carried_out, slice_after}
 use Rattle.tables.specs.Tables.{table_of}
-use Rattle.tables.proofs.CheckLaws.{then_left, then_fault, turned_back_lem, passed}
+use Rattle.tables.proofs.CheckLaws.{then_left, then_fault, passed}
 use Rattle.machines.specs.Machine.{machine_in}
 use Rattle.questions.specs.declared.Loaded.{Loaded}
 use Rattle.marks.proofs.RoundLaws.{has-marks}
@@ -34,14 +34,6 @@ use Rattle.checker.specs.Run.{run_checks, run_answer, run_marks, run_steps}
 use Rattle.checker.specs.Demands.{RunDemand, RunDemands}
 use Rattle.checker.proofs.DecideLaws.{decide_asked, none_fault}
 use Rattle.checker.proofs.DemandLaws.{marks_demand}
-
--- turned back: the second slice is unchanged too
-pub run_turned_back : (s : List ℕ) (q : Question) (mode : ℕ) (r : Refusal) (first second : List ℕ) → run_checks s q mode (length first) (length second) ≡ Err r
-    → (turned_back r ≡ run_answer s q mode (length first) (length second)) × ((first ≡ run_marks s q mode first (length second)) × (second ≡ run_steps s q mode (length first) second))
-unfolding run_answer run_marks run_steps
-run_turned_back s q mode r first second e =
-    let (told, marks) = turned_back_lem _ r (mark (mode_of mode) (demand_of s q) (supply_of s q) q.demand.state q.supply.state ∷ []) _ first e in
-    (told, (marks, (turned_back_lem _ r [] _ second e).1))
 
 -- as Decide
 pub decide_fault : (s : List ℕ) (q : Question) (mode : ℕ) (r : Refusal) (room more : ℕ) → decide_checks s q mode room ≡ Err r → run_checks s q mode room more ≡ Err r

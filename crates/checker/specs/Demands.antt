@@ -1,6 +1,6 @@
 -- The second and the third demand, of the calls that are carried out: for the machines D and S of the two tables, the pair (t, s) that is asked
--- about, the values that are returned (the verdict, 1 for yes and 0 for no; the count kept; rounds; the count of moves or of steps), and what the
--- slices hold at exit.
+-- about, the values that are returned (the verdict, 1 for yes and 0 for no; the count kept; rounds; the count of moves, of steps or of triples), and
+-- what the slices hold at exit. Beside them what document 02 wants shown of Explain.
 use Rattle.std.specs.Prelude.{ℕ, suc, ◌*◌, ◌≤◌, ◌<◌, ◌≡◌, Bool, not, ◌↔◌, T, eqb, length, take, drop}
 use mathlib.Core.List.{List, [], ◌∷◌, flat_map, Memᴰ}
 use Rattle.rules.specs.declared.Mode.{Mode}
@@ -15,6 +15,8 @@ use Rattle.rules.specs.Relations.{Pairs, Passing, Meets}
 use Rattle.rules.specs.Rounds.{Kept, mark_at, count_pairs}
 use Rattle.rules.specs.Runs.{Free, Schedulable}
 use Rattle.rules.specs.Steps.{IsRun, EndsBlocked, step_rows}
+use Rattle.rules.specs.declared.Triple.{Triple}
+use Rattle.rules.specs.Explanations.{AreTriples, Explains, triples_at, triple_numbers}
 use Rattle.tables.specs.Answers.{Answer, carried_out}
 use Rattle.questions.specs.declared.Question.{Question}
 use Rattle.questions.specs.Pairs.{demand_of, supply_of}
@@ -109,6 +111,22 @@ pub record RunDemand (mode : Mode) (D S : Machine) (t s count : ℕ) (marks step
   -- and leads by surviving moves to a blocked pair
   pub blocked : (count ≡ 0 → ⊥) → EndsBlocked D S t s slots
 
+-- 02, L3: what the triples of the pair show, by both slices as they are left.
+pub record ExplainDemand (mode : Mode) (D S : Machine) (t s count : ℕ) (marks triples : List ℕ) : Type 0 where
+  -- the triples; each is written as "supply row, task row, mark of the pair they lead to"
+  pub listed : List Triple
+  pub entries : take (3 * count) triples ≡ flat_map triple_numbers listed
+  -- "their count is returned"
+  pub many : length listed ≡ count
+  -- they are those of L3, to the row, each once, and they rise
+  pub are_triples : AreTriples mode D S t s listed
+  -- their marks are those that are written
+  pub by_marks : listed ≡ triples_at mode (D.moves t) (S.moves s) (mark_at S.n marks) (mark_at S.n marks t s)
+  -- "above mark 1 the listed marks force the pair's own"; of a kept pair all are 0, and every supply row is listed
+  pub explains : Explains mode S s (mark_at S.n marks t s) listed
+  -- "Marks are written as Decide writes them."
+  pub marks_are : MarksDemand mode D S marks
+
 -- ---- of the calls
 
 -- what a call of Moves of a pair that is carried out promises, of its answer and of the slice at exit
@@ -127,3 +145,8 @@ pub record DecideDemands (file : List ℕ) (q : Question) (mode : ℕ) (a : Answ
 pub record RunDemands (file : List ℕ) (q : Question) (mode : ℕ) (a : Answer) (marks steps : List ℕ) : Type 0 where
   pub second : (count : ℕ) → a ≡ carried_out (count ∷ [])
       → RunDemand (mode_of mode) (demand_of file q) (supply_of file q) q.demand.state q.supply.state count marks steps
+
+-- what a call of Explain that is carried out promises, of its answer and of the slices at exit
+pub record ExplainDemands (file : List ℕ) (q : Question) (mode : ℕ) (a : Answer) (marks triples : List ℕ) : Type 0 where
+  pub explained : (count : ℕ) → a ≡ carried_out (count ∷ [])
+      → ExplainDemand (mode_of mode) (demand_of file q) (supply_of file q) q.demand.state q.supply.state count marks triples

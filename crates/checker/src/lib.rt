@@ -2,7 +2,8 @@
 // the two tables, and has an engine work out the answer. Nothing is asked of the caller. A file and a question stay two parameters, as the calls list
 // them. Relies on `rules` for the meaning, on `tables` for the file, on `questions` for what turns back a call before its engine runs and for loading the
 // tables of a pair, on `machines` for loading those of a join, and on the engines: `moves` for the surviving moves of a pair, `graphs` for those of all
-// pairs as text, `marks` for the marks of all pairs, `runs` for the run that shows a no, `joins` for the rows of a join.
+// pairs as text, `marks` for the marks of all pairs, `runs` for the run that shows a no, `explanations` for the triples that tell why a pair is kept or
+// struck, `joins` for the rows of a join.
 #![tactic(auto)]
 
 ghost use Rattle.std.specs.Prelude.{◌≡◌, length};
@@ -12,12 +13,14 @@ ghost use Rattle.checker.specs.Moves.{moves_answer, moves_slice};
 ghost use Rattle.checker.specs.Graph.{graph_answer, graph_slice, GraphDemands};
 ghost use Rattle.checker.specs.Decide.{decide_answer, decide_slice};
 ghost use Rattle.checker.specs.Run.{run_answer, run_marks, run_steps};
-ghost use Rattle.checker.specs.Demands.{MovesDemands, DecideDemands, RunDemands};
+ghost use Rattle.checker.specs.Explain.{explain_answer, explain_marks, explain_triples};
+ghost use Rattle.checker.specs.Demands.{MovesDemands, DecideDemands, RunDemands, ExplainDemands};
 ghost use Rattle.checker.specs.Join.{join_answer, join_slice, JoinDemands};
 
 use machines::Machine;
 use questions::{check_decision, check_join, check_pair, load_pair, mode_of};
 pub use questions::{Question, Side};
+use rules::Limits;
 use tables::{Reason, Refusal};
 
 // What Decide finds: yes or no for the start pair, the count kept, and rounds.
@@ -120,6 +123,40 @@ pub fn run(
     }
     let count = runs::write(sides, mode_of(mode), loaded.start, marks, steps);
     Ok(count as usize)
+}
+
+// Explain: the marks as Decide writes them, and the triples that tell why the pair is kept or struck: supply row, task row, and the mark of the pair that
+// they lead to. Whether there is room for the triples is known only once the marks are, so the marks are made in an array of the call's own, and copied
+// then.
+pub fn explain(
+    file: &[u8],
+    question: Question,
+    mode: usize,
+    marks: &mut [u16],
+    triples: &mut [u16],
+) -> Result<usize, Refusal>
+    ensures answer { counted result ≡ explain_answer file.now question mode (length marks.old) (length triples.old) }
+    ensures marks { marks.new ≡ explain_marks file.now question mode marks.old (length triples.old) }
+    ensures triples { triples.new ≡ explain_triples file.now question mode (length marks.old) triples.old }
+    ensures demands { ExplainDemands file.now question mode (counted result) marks.new triples.new }
+{
+    check_decision(file, question, mode)?;
+    let loaded = load_pair(file, question);
+    let sides = loaded.sides();
+    let pairs = sides.pairs();
+    if marks.len() < pairs {
+        return Err(Refusal::new(Reason::NoRoom, 0));
+    }
+    let mode = mode_of(mode);
+    let mut made = [0u16; Limits::STATES * Limits::STATES];
+    marks::write(sides, mode, &mut made);
+    let entries = explanations::write(sides, mode, loaded.start, &made, &mut []);
+    if triples.len() < entries {
+        return Err(Refusal::new(Reason::NoRoom, 0));
+    }
+    marks[..pairs].copy_from_slice(&made[..pairs]);
+    explanations::write(sides, mode, loaded.start, &made, triples);
+    Ok(entries / explanations::ENTRIES_PER_TRIPLE)
 }
 
 // Join: two demand tables, perhaps the same one, as one table whose states are the pairs of their states. Its body is written.

@@ -14,6 +14,7 @@ pub enum Operation {
     Readers,
     Constants,
     Graph,
+    Explain,
 }
 
 // A number that is no operation's.
@@ -38,6 +39,7 @@ impl TryFrom<usize> for Operation {
             7 => Ok(Operation::Readers),
             8 => Ok(Operation::Constants),
             9 => Ok(Operation::Graph),
+            10 => Ok(Operation::Explain),
             _ => Err(UnknownOperation {}),
         }
     }

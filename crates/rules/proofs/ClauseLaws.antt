@@ -13,3 +13,6 @@ module _ {A B C : Type 0} where
 module _ {A B C D : Type 0} where
   pub as_answer_marks_steps_demands : A × (B × (C × D)) → record { answer : A; marks : B; steps : C; demands : D }
   as_answer_marks_steps_demands p = record { answer = p.0; marks = p.1.0; steps = p.1.1.0; demands = p.1.1.1 }
+
+  pub as_answer_marks_triples_demands : A × (B × (C × D)) → record { answer : A; marks : B; triples : C; demands : D }
+  as_answer_marks_triples_demands p = record { answer = p.0; marks = p.1.0; triples = p.1.1.0; demands = p.1.1.1 }

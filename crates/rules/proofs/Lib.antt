@@ -15,4 +15,5 @@ pub mod RoundLaws
 pub mod MarkLaws
 pub mod RunLaws
 pub mod StepLaws
+pub mod ExplanationLaws
 pub mod JoinLaws

@@ -1,5 +1,5 @@
 -- Laws of lists: what `any`, `all`, `first` and `keep_if` mean, and how they and `flat_map` go over elements and over lists end to end. Relies on nothing.
-use Prim.Native.Nat.{ℕ, zero, suc, ◌+◌, ◌*◌, ◌<◌}
+use Prim.Native.Nat.{ℕ, zero, suc, ◌+◌, ◌*◌, ◌<◌, ◌≤◌}
 use mathlib.Core.Path.{◌≡◌, refl, sym, ap, ap₂, ◌∙◌, subst}
 use mathlib.Core.Bool.{Bool, true, false, not, cond, ◌&&◌, ◌||◌}
 use mathlib.Core.List.Memᴰ
@@ -135,6 +135,14 @@ module _ {A : Type 0} (p : A → Bool) where
   pub keep_if-append : (l r : List A) → keep_if p (l ++ r) ≡ keep_if p l ++ keep_if p r
   keep_if-append [] r = refl
   keep_if-append (x ∷ xs) r = ap (cons_if (p x) x) (keep_if-append xs r) ∙ cons_if-append (p x) x (keep_if p xs) (keep_if p r)
+
+  pub keep_if-few : (l : List A) → length (keep_if p l) ≤ length l
+  keep_if-few [] = omega arith
+  keep_if-few (x ∷ xs) = go (p x) (keep_if-few xs)
+    where
+      go : (b : Bool) → length (keep_if p xs) ≤ length xs → length (cons_if b x (keep_if p xs)) ≤ length (x ∷ xs)
+      go true h = omega arith
+      go false h = omega arith
 
   -- where none passes
   pub keep_if-none : (l : List A) → any p l ≡ false → keep_if p l ≡ []

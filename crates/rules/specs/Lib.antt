@@ -10,5 +10,6 @@ pub mod Relations
 pub mod Rounds
 pub mod Runs
 pub mod Steps
+pub mod Explanations
 pub mod Join
 pub mod Examples

@@ -1,6 +1,6 @@
 // The vocabulary of tables: rows, moves, pairs of states, the two modes, the limits, and the operations on sets of resources; and the meaning of it all.
-// Specs: sets of any width, machines, PADS, the surviving moves of a pair, the two relations, rounds and marks, runs, the steps that show a no,
-// joins, and the worked examples. Their theorems stand in proofs/. Relies on nothing.
+// Specs: sets of any width, machines, PADS, the surviving moves of a pair, the two relations, rounds and marks, runs, the steps that show a no, the
+// triples that tell why a pair is kept or struck, joins, and the worked examples. Their theorems stand in proofs/. Relies on nothing.
 #![tactic(auto)]
 
 ghost use Rattle.std.specs.Prelude.{◌≡◌};
@@ -122,6 +122,14 @@ impl Candidate {
 pub struct Pair {
     pub demand: u8,
     pub supply: u8,
+}
+
+// What tells why a pair is kept or struck: a supply row, a task row, and the mark of the pair that they lead to.
+#[derive(Clone, Copy)]
+pub struct Triple {
+    pub supply: u16,
+    pub task: u16,
+    pub mark: u16,
 }
 
 // Whether every resource of a is in b.

@@ -103,6 +103,12 @@ pub turned_back_lem : (c : Checked) (r : Refusal) (values written entry : List �
 unfolding answer slice_after
 turned_back_lem c r values written entry e = (rw e refl, rw e refl)
 
+-- of a call that is lent two slices, both are unchanged
+pub turned_back_both : (c : Checked) (r : Refusal) (values written entry more second : List ℕ) → c ≡ Err r
+    → (turned_back r ≡ answer c values) × ((entry ≡ slice_after c written entry) × (second ≡ slice_after c more second))
+unfolding answer slice_after
+turned_back_both c r values written entry more second e = (rw e refl, (rw e refl, rw e refl))
+
 -- carried out: the values are the answer, and what is written is left
 pub carried_out_lem : (c : Checked) (values written entry : List ℕ) → c ≡ Ok tt
     → (carried_out values ≡ answer c values) × (written ≡ slice_after c written entry)
