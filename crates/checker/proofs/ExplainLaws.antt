@@ -1,6 +1,6 @@
 -- Laws of Explain: the answer and the two slices, by what the checks find; and what the triples show. Relies on the laws of Decide, of marks and of
 -- explanations.
-use Prim.Native.Nat.{ℕ, ◌*◌, ◌/◌, ◌≤◌, ◌<◌}
+use Prim.Native.Nat.{ℕ, ◌*◌, ◌≤◌, ◌<◌}
 use mathlib.Core.Path.{◌≡◌, refl, sym, ap, ap₂, ◌∙◌}
 use mathlib.Core.List.{List, [], ◌∷◌, ◌++◌, flat_map}
 use native.Mathlib.Omega.{arith}
@@ -72,7 +72,7 @@ module _ (s : List ℕ) (q : Question) (mode : ℕ) (a : mode_checks s q mode �
   entries_asked = rw (same, x.start_is, x.demand_is, x.supply_is) refl
 
   module _ {entries : ℕ} (many : entries ≡ length (entries_from m (machine_in l.demand) (machine_in l.supply) l.start)) where
-    three_each : entries ≡ 3 * length (triples_asked s q mode)
+    pub three_each : entries ≡ 3 * length (triples_asked s q mode)
     three_each = many ∙ ap length entries_asked ∙ length-triple_numbers (triples_asked s q mode)
 
     module _ (first second : List ℕ) (long : (demand_of s q).n * (supply_of s q).n ≤ length first) where
@@ -87,19 +87,19 @@ module _ (s : List ℕ) (q : Question) (mode : ℕ) (a : mode_checks s q mode �
           rw (none_fault s q mode a (length first) long, le-ltb (length second) (3 * length (triples_asked s q mode)) (omega (arith, three_each))) refl
 
       -- carried out: the marks that were made are copied, and the triples are written
-      pub explain_carried_out : entries ≤ length second → (blank : List ℕ) {pairs : ℕ} {made marked exit : List ℕ}
+      pub explain_carried_out : entries ≤ length second → {count : ℕ} → 3 * count ≡ entries → (blank : List ℕ) {pairs : ℕ} {made marked exit : List ℕ}
           → made ≡ overwrite (marks m (machine_in l.demand) (machine_in l.supply)) blank → pairs ≡ (demand_of s q).n * (supply_of s q).n
           → marked ≡ take pairs made ++ drop pairs first → exit ≡ write_at 0 (entries_from m (machine_in l.demand) (machine_in l.supply) l.start) second
-          → (carried_out (entries / 3 ∷ []) ≡ explain_answer s q mode (length first) (length second))
+          → (carried_out (count ∷ []) ≡ explain_answer s q mode (length first) (length second))
           × ((marked ≡ explain_marks s q mode first (length second)) × (exit ≡ explain_triples s q mode (length first) second))
       unfolding explain_answer explain_marks explain_triples answer slice_after overwrite
-      explain_carried_out h blank {pairs} e p u w =
+      explain_carried_out h {count} each blank {pairs} e p u w =
           let none = no_fault h in
-          let count : entries / 3 ≡ length (triples_asked s q mode) = omega (arith, three_each) in
+          let listed : count ≡ length (triples_asked s q mode) = omega (arith, each, three_each) in
           let all = marks (mode_of mode) (demand_of s q) (supply_of s q) in
           let here : length all ≡ pairs = length-marks (mode_of mode) (demand_of s q) (supply_of s q) ∙ sym p in
           let made : _ ≡ overwrite all blank = e ∙ rw (same, x.demand_is, x.supply_is) refl in (
-            rw none (ap (λ (n : ℕ). carried_out (n ∷ [])) count),
+            rw none (ap (λ (n : ℕ). carried_out (n ∷ [])) listed),
             (
               rw none (u ∙ ap₂ (λ (z : List ℕ) (k : ℕ). z ++ drop k first) (ap (take pairs) made ∙ take_at all (drop (length all) blank) pairs here) (sym here)),
               rw none (w ∙ write_at-overwrite (entries_from m (machine_in l.demand) (machine_in l.supply) l.start) second (omega (arith, many)) ∙ ap (λ (z : List ℕ). overwrite z second) entries_asked),

@@ -12,7 +12,7 @@ use Rattle.questions.proofs.ModeLaws.{mode_asked}
 use Rattle.checker.specs.Decide.{decide_checks}
 use Rattle.checker.specs.Explain.{explain_answer, explain_marks, explain_triples}
 use Rattle.checker.proofs.DecideLaws.{short_fault}
-use Rattle.checker.proofs.ExplainLaws.{few_pairs, made_long, marks_fault, explain_starts, triples_fault, explain_carried_out, explain_shown}
+use Rattle.checker.proofs.ExplainLaws.{few_pairs, made_long, marks_fault, explain_starts, three_each, triples_fault, explain_carried_out, explain_shown}
 use Rattle.rules.proofs.ClauseLaws.{as_answer_marks_triples_demands}
 use Rattle.checker.proofs.explain.Goals as goal
 
@@ -75,6 +75,7 @@ returns c =
     let made = rw (c.sides-sides.ensures.demand, c.sides-sides.ensures.supply) at c.write.ensures.slice in
     let count = rw (c.sides-sides.ensures.demand, c.sides-sides.ensures.supply) at c.write-entries.ensures.count in
     let triples = rw (c.sides-sides.ensures.demand, c.sides-sides.ensures.supply) at c.write-2.ensures.slice in
+    let three = three_each _ _ _ (sym c.check_decision.ensures ∙ c.in_ok-check_decision.was) c.load_pair-loaded.ensures _ c.mode_of-mode.ensures count in
     as_answer_marks_triples_demands (explain_shown _ _ _ _ _ (Ok _)
     (explain_carried_out _ _ _ (sym c.check_decision.ensures ∙ c.in_ok-check_decision.was) c.load_pair-loaded.ensures _ c.mode_of-mode.ensures count _ _ (rw (← pairs) c.if-marks-pairs.false) (let room = c.if-triples-entries.false in omega arith)
-    _ made pairs (ap (λ (z : List ℕ). z ++ drop c.pairs-pairs.result c.args.marks.now) c.copy_from_slice.ensures.after) triples))
+    (omega (arith, three)) _ made pairs (ap (λ (z : List ℕ). z ++ drop c.pairs-pairs.result c.args.marks.now) c.copy_from_slice.ensures.after) triples))
