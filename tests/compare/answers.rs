@@ -302,7 +302,7 @@ fn call_join(question: &Question, tables: &[Table], lent: &mut Lent) -> Result<R
     if states > MOST_STATES {
         return refuse(16, 0);
     }
-    let rows = join(first, second);
+    let rows = join(first, second, question.resources());
     if rows.len() > MOST_ROWS {
         return refuse(17, 0);
     }

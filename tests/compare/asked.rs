@@ -56,6 +56,7 @@ fn blank(operation: Operation) -> Question {
         supply_state: IGNORED,
         first_length: IGNORED,
         second_length: IGNORED,
+        set: IGNORED,
     }
 }
 
@@ -70,18 +71,24 @@ fn question_of(word: &str, words: &mut Words) -> Result<Question, String> {
         "run" => pair_question(Operation::Run, words),
         "explain" => pair_question(Operation::Explain, words),
         "graph" => pair_question(Operation::Graph, words),
-        "join" => {
-            let (first_table, second_table) = (words.number()?, words.number()?);
-            words.take_this("room")?;
-            let first_length = words.number()?;
-            Ok(Question { first_table, second_table, first_length, ..blank(Operation::Join) })
-        }
+        "join" => join_question(words),
         "report" => {
             words.take_this("room")?;
             Ok(Question { first_length: words.number()?, ..blank(Operation::Report) })
         }
         other => Err(format!("'{other}' is no question")),
     }
+}
+
+/// `FIRST SECOND [common SET] room BYTES`.
+fn join_question(words: &mut Words) -> Result<Question, String> {
+    let mut question = blank(Operation::Join);
+    question.first_table = words.number()?;
+    question.second_table = words.number()?;
+    question.set = words.set_behind("common")?;
+    words.take_this("room")?;
+    question.first_length = words.number()?;
+    Ok(question)
 }
 
 /// `[MODE] DEMAND SUPPLY from STATE STATE room ENTRIES [ENTRIES]`, the mode for

@@ -8,6 +8,7 @@ use crate::question::{Operation, Question};
 use crate::random::Random;
 use crate::report::report;
 use crate::rules::{combined_moves, explain, join, marks, Mode, Pair, Tables};
+use crate::sets::{any_set, common_set};
 
 /// The longest slice that a question can ask for.
 const LONGEST_SLICE: usize = 65_535;
@@ -82,7 +83,10 @@ fn exact_question(random: &mut Random, file: &[u8], operation: Operation) -> Que
         Operation::Body => any_table,
         _ => table_of_kind(random, tables, Kind::Demand),
     };
-    let second_table = table_of_kind(random, tables, second_kind);
+    let second_table = match operation {
+        Operation::Join if random.chance(1, 4) => first_table,
+        _ => table_of_kind(random, tables, second_kind),
+    };
     let from_start = random.chance(1, 2);
     let demand_state = random_state(random, tables.get(first_table), from_start);
     let supply_state = random_state(random, tables.get(second_table), from_start);
@@ -95,8 +99,12 @@ fn exact_question(random: &mut Random, file: &[u8], operation: Operation) -> Que
         supply_state,
         first_length: random.below(40),
         second_length: 0,
+        set: any_set(random),
     };
     if let (Some(first), Some(second)) = (tables.get(first_table), tables.get(second_table)) {
+        if operation == Operation::Join {
+            question.set = common_set(random, first, second);
+        }
         set_exact_lengths(&mut question, first, second);
     }
     if operation == Operation::Report {
@@ -147,7 +155,7 @@ fn set_exact_lengths(question: &mut Question, first: &Table, second: &Table) {
         }
         Operation::Join => {
             if count_of_pairs <= MOST_STATES {
-                let count = join(first, second).len();
+                let count = join(first, second, question.resources()).len();
                 question.first_length = (4 * count).min(LONGEST_SLICE);
             }
         }
@@ -241,7 +249,10 @@ fn under(random: &mut Random, exact: usize) -> usize {
 }
 
 /// How many joins `join_at_limit` makes.
-const JOINS: usize = 16;
+const JOINS: usize = 20;
+/// From this one on, all rows of both tables have resource 15: the join comes to
+/// the limit where that is common.
+const FIRST_SHARING: usize = 16;
 
 /// Two demand tables whose join is at a limit, one past it, or has equal rows.
 /// `which` counts below `JOINS`.
@@ -263,8 +274,20 @@ fn tables_to_join(random: &mut Random, which: usize) -> [Draft; 2] {
         12 => [subsets(128, 0), subsets(128, 0)],
         13 => [table_with_rows(random, DEMAND, 8, 512), draft(DEMAND, 1, &[])],
         14 => [table_with_rows(random, DEMAND, 8, 512), draft(DEMAND, 2, &[(1, 1, 1)])],
-        _ => [table_with_rows(random, DEMAND, 3, 512), table_with_rows(random, DEMAND, 3, 512)],
+        15 => [table_with_rows(random, DEMAND, 3, 512), table_with_rows(random, DEMAND, 3, 512)],
+        16 => [apart_rows(26, 0), apart_rows(18, 8)].map(sharing),
+        17 => [apart_rows(1, 0), apart_rows(256, 7)].map(sharing),
+        18 => [subsets(127, 0), subsets(128, 65)].map(sharing),
+        _ => [subsets(128, 0), subsets(128, 64)].map(sharing),
     }
+}
+
+/// The table with resource 15 in all its rows, of which none has it yet.
+fn sharing(mut table: Draft) -> Draft {
+    for row in &mut table.rows {
+        row.set |= 32_768;
+    }
+    table
 }
 
 /// So many rows from state 1 to FIN that all request resource 15: two such
@@ -295,7 +318,8 @@ fn subsets(count: usize, more: usize) -> Draft {
 /// A join at a limit: the file, and a question with the exact length of the
 /// slice, or one too short, or one somewhat longer.
 pub fn join_at_limit(random: &mut Random, turn: usize) -> (Vec<u8>, Question) {
-    let tables = tables_to_join(random, turn % JOINS);
+    let which = turn % JOINS;
+    let tables = tables_to_join(random, which);
     let file = file_of(&tables);
     let opened = open(&file).unwrap_or_default();
     let mut question = exact_question(random, &file, Operation::Join);
@@ -305,6 +329,10 @@ pub fn join_at_limit(random: &mut Random, turn: usize) -> (Vec<u8>, Question) {
         (question.first_table, question.second_table) = (1, 0);
     }
     let [first, second] = [&opened[question.first_table], &opened[question.second_table]];
+    question.set = common_set(random, first, second);
+    if which >= FIRST_SHARING {
+        question.set |= 32_768;
+    }
     set_exact_lengths(&mut question, first, second);
     match (turn / JOINS) % 3 {
         0 => {}
@@ -339,6 +367,7 @@ pub fn wide_moves(random: &mut Random, which: usize) -> (Vec<u8>, Question) {
         supply_state: 1,
         first_length: length,
         second_length: 0,
+        set: 0,
     };
     (file_of(&[supply, demand]), question)
 }
@@ -382,6 +411,7 @@ pub fn wide_triples(which: usize) -> (Vec<u8>, Question) {
         supply_state: 1,
         first_length: 10,
         second_length,
+        set: 0,
     };
     (file_of(&[fitting_rows(demand), holding_rows(supply)]), question)
 }
@@ -418,6 +448,7 @@ pub fn report_question(random: &mut Random, file: &[u8], which: usize) -> Questi
         3 => exact + random.between(1, 20),
         _ => random.pick(&[exact + 1000, exact + 4000, LONGEST_SLICE]),
     };
+    let set = any_set(random);
     let mut any = || random.below(65_536);
     Question {
         operation: Operation::Report,
@@ -428,5 +459,6 @@ pub fn report_question(random: &mut Random, file: &[u8], which: usize) -> Questi
         supply_state: any(),
         first_length: length.min(LONGEST_SLICE),
         second_length: any(),
+        set,
     }
 }

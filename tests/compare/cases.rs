@@ -88,7 +88,7 @@ const ROTATION: [Kind; 31] = [
     kind("calls, question with faults", 4, calls_faulty_question),
     kind("calls, damaged file or random bytes", 1, calls_damaged),
     kind("calls, file at a limit", 1, calls_limit),
-    kind("calls, Join of random tables", 1, calls_join),
+    kind("calls, Join of random tables", 2, calls_join),
     kind("calls, Join at a limit", 1, calls_join_limit),
     kind("calls, very many moves or triples", 1, calls_wide),
     kind("calls, Report", 3, calls_report),
@@ -323,16 +323,12 @@ fn calls_limit(random: &mut Random, turn: usize) -> Made {
 }
 
 /// Joins of tables with few states, sometimes of a table with itself.
-fn calls_join(random: &mut Random, turn: usize) -> Made {
+fn calls_join(random: &mut Random, _: usize) -> Made {
     let mut tables = odd_tables(random);
     tables.extend(random_tables(random));
     tables.extend(odd_tables(random));
     let file = file_of(&tables);
-    let mut question = likely_question(random, &file, Operation::Join);
-    if turn % 4 == 0 {
-        question.second_table = question.first_table;
-    }
-    for_calls(question.before(&file))
+    for_calls(likely_question(random, &file, Operation::Join).before(&file))
 }
 
 fn calls_join_limit(random: &mut Random, turn: usize) -> Made {

@@ -32,6 +32,13 @@ pub struct Table {
     pub body: Range<usize>,
 }
 
+impl Table {
+    /// All resources that a row names.
+    pub fn resources(&self) -> u16 {
+        self.rows.iter().fold(0, |all, row| all | row.set)
+    }
+}
+
 /// A call turned back: its number and place.
 #[derive(Clone, Copy)]
 pub struct Refusal {

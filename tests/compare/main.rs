@@ -22,6 +22,7 @@ mod question;
 mod random;
 mod report;
 mod rules;
+mod sets;
 mod tally;
 mod wide;
 mod words;

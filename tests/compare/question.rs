@@ -1,7 +1,7 @@
-//! A question of `calls_test`: a head of eight numbers, and the file behind it.
+//! A question of `calls_test`: a head of nine numbers, and the file behind it.
 
-/// The bytes of a head: eight numbers of 8 bytes, little-endian.
-pub const HEAD_LENGTH: usize = 64;
+/// The bytes of a head: nine numbers of 8 bytes, little-endian.
+pub const HEAD_LENGTH: usize = 72;
 
 #[derive(Clone, Copy, PartialEq, Eq)]
 pub enum Operation {
@@ -56,6 +56,8 @@ pub struct Question {
     pub supply_state: usize,
     pub first_length: usize,
     pub second_length: usize,
+    /// A set of resources, of which the lowest 16 bits are read.
+    pub set: usize,
 }
 
 impl Question {
@@ -77,7 +79,13 @@ impl Question {
             supply_state: number(5),
             first_length: number(6),
             second_length: number(7),
+            set: number(8),
         })
+    }
+
+    /// The set of resources, without the bits that are not read.
+    pub fn resources(&self) -> u16 {
+        self.set as u16
     }
 
     /// The whole input: the head, then the file.
@@ -91,6 +99,7 @@ impl Question {
             self.supply_state,
             self.first_length,
             self.second_length,
+            self.set,
         ];
         let mut input: Vec<u8> =
             numbers.iter().flat_map(|number| (*number as u64).to_le_bytes()).collect();

@@ -1,8 +1,9 @@
 //! Counts what the cases covered, and prints it.
 
-use crate::answers::{Answer, Decision, Explanation};
+use crate::answers::{answer, Answer, Decision, Explanation};
 use crate::cases::Program;
-use crate::question::Question;
+use crate::file::open;
+use crate::question::{Operation, Question, HEAD_LENGTH};
 use crate::rules::{Mode, NO_ROW};
 
 const COLUMNS: [&str; 13] = [
@@ -21,6 +22,13 @@ const EXPLANATIONS: [&str; 7] = [
     "at mark 1 beside a stuck supply",
     "with different marks above 0",
 ];
+/// What common resources led to in a join; one join may count at several.
+const JOINS: [&str; 4] = [
+    "carried out with other rows than with none in common",
+    "turned back with 17 but not with none in common",
+    "carried out with all 16 in common",
+    "carried out with some in common that neither table uses",
+];
 /// Some run must have so many steps or more.
 const LONG_RUN: usize = 3_906;
 /// Some text of `aut` must have so many bytes or more.
@@ -37,6 +45,7 @@ pub struct Tally {
     longest_text: usize,
     verdicts_of_slots: [usize; VERDICTS.len()],
     explanations: [usize; EXPLANATIONS.len()],
+    joins: [usize; JOINS.len()],
 }
 
 impl Tally {
@@ -52,14 +61,19 @@ impl Tally {
             longest_text: 0,
             verdicts_of_slots: [0; VERDICTS.len()],
             explanations: [0; EXPLANATIONS.len()],
+            joins: [0; JOINS.len()],
         }
     }
 
     pub fn count(&mut self, program: Program, input: &[u8], answer: &Answer) {
+        let question = match program {
+            Program::Calls => Question::read(input),
+            _ => None,
+        };
         let column = match program {
             Program::Slots => Some(0),
             Program::Aut => Some(1),
-            Program::Calls => Question::read(input).map(|question| 2 + question.operation as usize),
+            Program::Calls => question.map(|question| 2 + question.operation as usize),
         };
         match (column, answer.number) {
             (Some(column), Some(number)) => self.answers[number as usize][column] += 1,
@@ -70,6 +84,9 @@ impl Tally {
         }
         if let Some(explanation) = &answer.explanation {
             self.count_explanation(explanation);
+        }
+        if let Some(question) = question.filter(|found| found.operation == Operation::Join) {
+            self.count_join(&question, &input[HEAD_LENGTH..], answer);
         }
         if program == Program::Aut {
             self.longest_text = self.longest_text.max(answer.text.len());
@@ -105,6 +122,22 @@ impl Tally {
         self.explanations[6] += above.any(|mark| Some(mark) != first) as usize;
     }
 
+    /// Holds a join to the same one with no common resources.
+    fn count_join(&mut self, question: &Question, file: &[u8], joined: &Answer) {
+        let plain = answer(&Question { set: 0, ..*question }.before(file));
+        let common = question.resources();
+        let done = joined.number == Some(0);
+        let found = [
+            done && joined.text != plain.text,
+            joined.number == Some(17) && plain.number != Some(17),
+            done && common == u16::MAX,
+            done && common != 0 && common & used_resources(question, file) == 0,
+        ];
+        for (count, found) in self.joins.iter_mut().zip(found) {
+            *count += found as usize;
+        }
+    }
+
     /// Takes in the counts of another tally.
     pub fn add(&mut self, other: &Tally) {
         for number in 0..NUMBERS {
@@ -117,6 +150,9 @@ impl Tally {
         }
         for kind in 0..EXPLANATIONS.len() {
             self.explanations[kind] += other.explanations[kind];
+        }
+        for kind in 0..JOINS.len() {
+            self.joins[kind] += other.joins[kind];
         }
         self.nothing_printed += other.nothing_printed;
         self.full_yes += other.full_yes;
@@ -149,12 +185,13 @@ impl Tally {
         println!("partial: {} yes, {} no", self.partial_yes, self.partial_no);
         println!("slots: {}", listed(&VERDICTS, &self.verdicts_of_slots));
         println!("explained: {}", listed(&EXPLANATIONS, &self.explanations));
+        println!("joined: {}", listed(&JOINS, &self.joins));
         println!("longest run: {} steps", self.longest_run);
         println!("longest text of aut: {} bytes", self.longest_text);
     }
 
     /// What no case hit, as sentences: numbers of the calls, verdicts of `slots`,
-    /// explanations, a long run, a long text.
+    /// explanations, joins, a long run, a long text.
     pub fn missing(&self) -> Vec<String> {
         let mut sentences = Vec::new();
         for number in 0..NUMBERS {
@@ -174,6 +211,11 @@ impl Tally {
                 sentences.push(format!("no pair {name} was explained"));
             }
         }
+        for (name, count) in JOINS.iter().zip(self.joins) {
+            if count == 0 {
+                sentences.push(format!("no join was {name}"));
+            }
+        }
         if self.longest_run < LONG_RUN {
             sentences.push(format!("no run had {LONG_RUN} steps or more"));
         }
@@ -182,6 +224,14 @@ impl Tally {
         }
         sentences
     }
+}
+
+/// The resources that the two tables of a join name.
+fn used_resources(question: &Question, file: &[u8]) -> u16 {
+    let tables = open(file).unwrap_or_default();
+    let asked = [question.first_table, question.second_table];
+    let found = asked.iter().filter_map(|table| tables.get(*table));
+    found.fold(0, |all, table| all | table.resources())
 }
 
 /// Counts with their names.

@@ -80,6 +80,18 @@ impl Words {
         Ok(set)
     }
 
+    /// The set behind a word, as `{0, 2}`, or as a number where higher bits are to
+    /// be there too; the empty set where the word is left out.
+    pub fn set_behind(&mut self, word: &str) -> Result<usize, String> {
+        if !self.take_if(word) {
+            return Ok(0);
+        }
+        match self.peek() {
+            "{" => Ok(self.set()? as usize),
+            _ => self.number(),
+        }
+    }
+
     /// Rows up to the line's end: `1 to 0 {0}`, or `1 to 0 counting 512` for the
     /// sets 0, 1, .. 511, or `1 to 0 counting 18 by 256` for 0, 256, .. 4352, or
     /// `1 to 0 counting 3 from 8` for 8, 9, 10.

@@ -215,21 +215,23 @@ impl CaseFile {
         Ok(())
     }
 
-    /// The table that Join makes of two tables of a file.
+    /// `FILE TABLE TABLE [common SET]`: the table that Join makes of two tables of a
+    /// file.
     fn joined(&self, words: &mut Words) -> Result<Draft, String> {
         let name = words.take()?;
         let (first, second) = (words.number()?, words.number()?);
+        let common = words.set_behind("common")? as u16;
         let file = self.files.get(&name).ok_or(format!("no file {name}"))?;
         let tables = open(file).map_err(|_| format!("{name} does not open"))?;
         let (Some(first), Some(second)) = (tables.get(first), tables.get(second)) else {
             return Err(format!("{name} has not so many tables"));
         };
         let states = first.states * second.states;
-        Ok(Draft { kind: DEMAND, states, rows: join(first, second) })
+        Ok(Draft { kind: DEMAND, states, rows: join(first, second, common) })
     }
 
-    /// `joined FILE TABLE TABLE digest NUMBER` in an answer: the rows that Join
-    /// makes of two tables, which must have this digest.
+    /// `joined FILE TABLE TABLE [common SET] digest NUMBER` in an answer: the rows
+    /// that Join makes of two tables, which must have this digest.
     fn add_joined(&mut self, mut words: Words) -> Result<(), String> {
         words.take_this("joined")?;
         let rows = self.joined(&mut words)?.rows;

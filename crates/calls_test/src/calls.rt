@@ -57,7 +57,8 @@ pub(crate) fn join(call: Call) {
     let first = call.question.demand.table;
     let second = call.question.supply.table;
     lent::bytes(call, |out| {
-        tell(checker::join(call.file, first, second, out).map(|size| (size.states, size.rows, 0)));
+        let found = checker::join(call.file, first, second, call.set, out);
+        tell(found.map(|size| (size.states, size.rows, 0)));
     });
 }
 

@@ -2,12 +2,13 @@
 // afterwards. The case files and the comparison below `tests` ask it many questions in one run. Relies on `tables`, `checker` and `report` for the
 // calls, on `rules` for its constants, on `input` for questions and on `output` for the lines of an answer.
 //
-// A question is its length, then a head of eight numbers, then a file; the length is that of the head and the file. Numbers have 8 bytes and are
+// A question is its length, then a head of nine numbers, then a file; the length is that of the head and the file. Numbers have 8 bytes and are
 // little-endian. The head:
 //   0 operation: 0 Open, 1 Body, 2 Moves of a pair, 3 Decide, 4 Run, 5 Join, 6 `report::write`, 7 the readers, 8 the constants, 9 Graph, 10 Explain
 //   1 mode
 //   2 first table (the demand; for the readers the number of entry and row)    3 its state    4 second table (the supply)    5 its state
 //   6 entries of the first lent slice (of Join, `report::write` and Graph: bytes)    7 entries of the second
+//   8 a set of resources, of which the lowest 16 bits are read: of Join the common ones
 // The first line of an answer is the number and the place, 0 and 0 where the call is carried out, and three values that it returns, 0 where there are
 // fewer. The lines after it are the slices, every entry of them: two for Moves of a pair, Decide, Run and Explain, of which Run and Explain are lent the
 // second; one of bytes for Join, `report::write` and Graph; for Body the bytes of the part that it returns. What slices hold before the call:

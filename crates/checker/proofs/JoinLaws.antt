@@ -10,12 +10,13 @@ use lib.Arith.{digits_lt}
 use lib.Seq.{take-append_seam}
 use borrow.Author.Tests.{ltb-false}
 use Rattle.rules.specs.declared.Row.{Row}
+use Rattle.rules.specs.Rows.{move}
 use Rattle.rules.specs.Slices.{overwrite}
-use Rattle.rules.specs.Machines.{Machine, Sound, machine, widen}
+use Rattle.rules.specs.Machines.{Machine, Sound, IsMove, machine, widen}
 use Rattle.rules.specs.Actions.{tasks, ◌∥◌}
-use Rattle.rules.specs.Join.{join_state, join, IsJoinRow}
+use Rattle.rules.specs.Join.{join_state, join, Joins, IsJoinRow}
 use Rattle.rules.proofs.MachineLaws.{fin_moves, widen_none}
-use Rattle.rules.proofs.JoinLaws.{join_rises, join_rows_lem, join_from, join_target, join_parallel}
+use Rattle.rules.proofs.JoinLaws.{join_rises, join_rows_lem, join_from, join_target, join_moves_lem, join_parallel}
 use Rattle.tables.specs.declared.Refusal.{Refusal}
 use Rattle.checker.specs.declared.TableSize.{TableSize}
 use Rattle.tables.specs.Checks.{Checked, ◌then◌}
@@ -32,7 +33,7 @@ use Rattle.questions.specs.Sizes.{size_checks}
 use Rattle.questions.proofs.PairLaws.{table_at_sound}
 use Rattle.questions.proofs.SizeLaws.{first_at, second_at, states_few}
 use Rattle.checker.specs.Calls.{joined}
-use Rattle.checker.specs.Join.{join_of, join_checks, join_answer, join_slice, IsJoin, JoinDemands}
+use Rattle.checker.specs.Join.{join_of, join_checks, join_answer, join_slice, written_table, IsJoin, JoinDemands}
 
 -- the answer that writing gives to a joined table of n states
 abbrev answer_of : ℕ → Result ℕ Refusal → Answer
@@ -47,19 +48,21 @@ module _ (s : List ℕ) (i j : ℕ) (a : size_checks s i j ≡ Ok tt) where
   pub second_filed : HasTable s j
   second_filed = let t = second_at s i j a in record { table = t.table; within = t.within }
 
-  -- the rows decide
-  rows_decide : (room : ℕ) → join_checks s i j room ≡ rows_checks (join_of s i j).rows room
-  unfolding join_checks ◌then◌
-  rows_decide room = rw a refl
+  module _ (common : ℕ) where
+    -- the rows decide
+    rows_decide : (room : ℕ) → join_checks s i j common room ≡ rows_checks (join_of s i j common).rows room
+    unfolding join_checks ◌then◌
+    rows_decide room = rw a refl
 
-  by_rows : (room n : ℕ) → n ≡ (table_of s i).n * (table_of s j).n → (w : Result ℕ Refusal) → counted w ≡ rows_answer (join_of s i j).rows room
-      → answer_of n w ≡ join_answer s i j room
-  unfolding join_answer rows_answer
-  by_rows room n product (Ok m) e =
-      let (passes, values) = passed (rows_checks (join_of s i j).rows room) m [] (length (join_of s i j).rows ∷ []) (sym e) in
-      let told = carried_out_lem (rows_checks (join_of s i j).rows room) ((table_of s i).n * (table_of s j).n ∷ length (join_of s i j).rows ∷ []) [] [] passes in
-      rw (rows_decide room) (ap₂ (λ (x y : ℕ). carried_out (x ∷ y ∷ [])) product (sym (ap (λ (l : List ℕ). get_or l 0 0) values)) ∙ told.0)
-  by_rows room n product (Err r) e = rw (rows_decide room) (turned_whatever _ r _ _ _ e)
+    by_rows : (room n : ℕ) → n ≡ (table_of s i).n * (table_of s j).n → (w : Result ℕ Refusal) → counted w ≡ rows_answer (join_of s i j common).rows room
+        → answer_of n w ≡ join_answer s i j common room
+    unfolding join_answer rows_answer
+    by_rows room n product (Ok m) e =
+        let (passes, values) = passed (rows_checks (join_of s i j common).rows room) m [] (length (join_of s i j common).rows ∷ []) (sym e) in
+        let told =
+        carried_out_lem (rows_checks (join_of s i j common).rows room) ((table_of s i).n * (table_of s j).n ∷ length (join_of s i j common).rows ∷ []) [] [] passes in
+        rw (rows_decide room) (ap₂ (λ (x y : ℕ). carried_out (x ∷ y ∷ [])) product (sym (ap (λ (l : List ℕ). get_or l 0 0) values)) ∙ told.0)
+    by_rows room n product (Err r) e = rw (rows_decide room) (turned_whatever _ r _ _ _ e)
 
   -- the two machines, as they are loaded
   module _ {one two : Machine} (e : one ≡ widen 0 (machine_of s i)) (f : two ≡ widen 0 (machine_of s j)) where
@@ -70,27 +73,27 @@ module _ (s : List ℕ) (i j : ℕ) (a : size_checks s i j ≡ Ok tt) where
     product_few = rw product_is (states_few s i j a)
 
     -- their rows are those of the joined table
-    rows_found : (join one two).rows ≡ (join_of s i j).rows
-    rows_found = ap₂ (λ (x y : Machine). (join x y).rows) (e ∙ widen_none (machine_of s i)) (f ∙ widen_none (machine_of s j))
+    rows_found : {taken : ℕ} (common : ℕ) → taken ≡ common → (join taken one two).rows ≡ (join_of s i j common).rows
+    rows_found common same = λ k. (join (same k) ((e ∙ widen_none (machine_of s i)) k) ((f ∙ widen_none (machine_of s j)) k)).rows
 
     -- what writing them comes to
-    pub write_answers : {n : ℕ} → n ≡ one.n * two.n → (entry exit : List ℕ) {w v : Result ℕ Refusal}
-        → counted w ≡ rows_answer (join one two).rows (length entry) → exit ≡ rows_slice (join one two).rows entry → w ≡ v
-        → record { answer : answer_of n v ≡ join_answer s i j (length entry); slice : exit ≡ join_slice s i j entry }
+    pub write_answers : {taken n : ℕ} (common : ℕ) → taken ≡ common → n ≡ one.n * two.n → (entry exit : List ℕ) {w v : Result ℕ Refusal}
+        → counted w ≡ rows_answer (join taken one two).rows (length entry) → exit ≡ rows_slice (join taken one two).rows entry → w ≡ v
+        → record { answer : answer_of n v ≡ join_answer s i j common (length entry); slice : exit ≡ join_slice s i j common entry }
     unfolding join_slice rows_slice
-    write_answers {n} product entry exit {w} {v} told left same = record {
+    write_answers {n = n} common is product entry exit {w} {v} told left same = record {
       answer =
-          by_rows (length entry) n (product ∙ product_is) v
-          (ap counted (sym same) ∙ told ∙ ap (λ (z : List Row). rows_answer z (length entry)) rows_found);
+          by_rows common (length entry) n (product ∙ product_is) v
+          (ap counted (sym same) ∙ told ∙ ap (λ (z : List Row). rows_answer z (length entry)) (rows_found common is));
       slice =
-          left ∙ ap (λ (z : List Row). slice_after (rows_checks z (length entry)) (overwrite (body_bytes z) entry) entry) rows_found
-          ∙ ap (λ (c : Checked). slice_after c (overwrite (body_bytes (join_of s i j).rows) entry) entry) (sym (rows_decide (length entry)));
+          left ∙ ap (λ (z : List Row). slice_after (rows_checks z (length entry)) (overwrite (body_bytes z) entry) entry) (rows_found common is)
+          ∙ ap (λ (c : Checked). slice_after c (overwrite (body_bytes (join_of s i j common).rows) entry) entry) (sym (rows_decide common (length entry)));
     }
 
 -- ---- what is written
 
-module _ (s : List ℕ) (i j : ℕ) (entry exit : List ℕ) (left : exit ≡ join_slice s i j entry)
-    (n m : ℕ) (told : join_answer s i j (length entry) ≡ carried_out (n ∷ m ∷ [])) where
+module _ (s : List ℕ) (i j common : ℕ) (entry exit : List ℕ) (left : exit ≡ join_slice s i j common entry)
+    (n m : ℕ) (told : join_answer s i j common (length entry) ≡ carried_out (n ∷ m ∷ [])) where
   abbrev D : Machine
   D = machine_of s i
 
@@ -98,11 +101,11 @@ module _ (s : List ℕ) (i j : ℕ) (entry exit : List ℕ) (left : exit ≡ joi
   E = machine_of s j
 
   abbrev rows : List Row
-  rows = (join_of s i j).rows
+  rows = (join_of s i j common).rows
 
-  outcome : (join_checks s i j (length entry) ≡ Ok tt) × ((table_of s i).n * (table_of s j).n ∷ length rows ∷ [] ≡ n ∷ m ∷ [])
+  outcome : (join_checks s i j common (length entry) ≡ Ok tt) × ((table_of s i).n * (table_of s j).n ∷ length rows ∷ [] ≡ n ∷ m ∷ [])
   unfolding join_answer
-  outcome = passed (join_checks s i j (length entry)) _ _ _ told
+  outcome = passed (join_checks s i j common (length entry)) _ _ _ told
 
   asked : size_checks s i j ≡ Ok tt
   unfolding join_checks
@@ -140,24 +143,28 @@ module _ (s : List ℕ) (i j : ℕ) (entry exit : List ℕ) (left : exit ≡ joi
       let one = digits_lt {q = 0} {m = D.n} {r = 0} {c = E.n} first_sound.fin second_sound.fin in
       subst (λ (x : List ℕ). TableBody n m x) (sym bytes_are)
       (subst₂ (λ (x y : ℕ). TableBody x y (body_bytes rows)) (sym n_is) (sym m_is)
-      (bytes_body (D.n * E.n) rows (omega arith) (states_few s i j asked) few_rows (join_from D E) (join_target D E first_sound second_sound) (join_rises D E)))
+      (bytes_body (D.n * E.n) rows (omega arith) (states_few s i j asked) few_rows
+      (join_from common D E) (join_target common D E first_sound second_sound) (join_rises common D E)))
 
-  machine_is : machine (record { n = n; rows = rows_of (take (4 * m) exit) m }) ≡ machine (join D E)
+  machine_is : machine (written_table n m exit) ≡ machine (join_of s i j common)
   unfolding join
   machine_is = ap₂ (λ (x : ℕ) (z : List Row). machine (record { n = x; rows = z })) n_is rows_are
 
-  pub is_join : IsJoin D E n m exit
+  pub is_join : IsJoin common D E n m exit
   is_join = record {
     states = n_is;
     body = body_is;
-    rows = λ r. subst (λ (z : List Row). Memᴰ r z ↔ IsJoinRow D E r) (sym rows_are) (join_rows_lem D E r);
-    parallel = λ a b u v x p q l.
-        subst (λ (M : Machine). (tasks D ∥ tasks E).Step (a, b) x (u, v) ↔ (tasks M).Step (join_state E.n a b) x (join_state E.n u v)) (sym machine_is)
-        (join_parallel D E (fin_moves _) (fin_moves _) second_sound a b u v x p q l);
+    rows = λ r. subst (λ (z : List Row). Memᴰ r z ↔ IsJoinRow common D E r) (sym rows_are) (join_rows_lem common D E r);
+    moves = λ a b set target p q.
+        subst (λ (M : Machine). ((i : ℕ) × IsMove M (join_state E.n a b) (move i set target)) ↔ Joins common D E a b set target) (sym machine_is)
+        (join_moves_lem common D E (fin_moves _) (fin_moves _) a b set target p q);
+    parallel = λ none a b u v x p q l.
+        subst (λ (M : Machine). (tasks D ∥ tasks E).Step (a, b) x (u, v) ↔ (tasks M).Step (join_state E.n a b) x (join_state E.n u v))
+        (sym (machine_is ∙ ap (λ (k : ℕ). machine (join_of s i j k)) none)) (join_parallel D E (fin_moves _) (fin_moves _) second_sound a b u v x p q l);
   }
 
 -- of a call, all three
-pub joined_table : (s : List ℕ) (i j : ℕ) (entry exit : List ℕ) (r : Result TableSize Refusal)
-    → (joined r ≡ join_answer s i j (length entry)) × (exit ≡ join_slice s i j entry)
-    → (joined r ≡ join_answer s i j (length entry)) × ((exit ≡ join_slice s i j entry) × JoinDemands s i j (joined r) exit)
-joined_table s i j entry exit r (a, l) = (a, (l, record { table = λ n m told. is_join s i j entry exit l n m (sym a ∙ told) }))
+pub joined_table : (s : List ℕ) (i j common : ℕ) (entry exit : List ℕ) (r : Result TableSize Refusal)
+    → (joined r ≡ join_answer s i j common (length entry)) × (exit ≡ join_slice s i j common entry)
+    → (joined r ≡ join_answer s i j common (length entry)) × ((exit ≡ join_slice s i j common entry) × JoinDemands s i j common (joined r) exit)
+joined_table s i j common entry exit r (a, l) = (a, (l, record { table = λ n m told. is_join s i j common entry exit l n m (sym a ∙ told) }))

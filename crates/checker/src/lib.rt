@@ -159,16 +159,23 @@ pub fn explain(
     Ok(entries / explanations::ENTRIES_PER_TRIPLE)
 }
 
-// Join: two demand tables, perhaps the same one, as one table whose states are the pairs of their states. Its body is written.
-pub fn join(file: &[u8], first: usize, second: usize, out: &mut [u8]) -> Result<TableSize, Refusal>
-    ensures answer { joined result ≡ join_answer file.now first second (length out.old) }
-    ensures slice { out.new ≡ join_slice file.now first second out.old }
-    ensures demands { JoinDemands file.now first second (joined result) out.new }
+// Join: two demand tables, perhaps the same one, as one table whose states are the pairs of their states. Two moves that share a resource which is not
+// common are barred. The body is written.
+pub fn join(
+    file: &[u8],
+    first: usize,
+    second: usize,
+    common: u16,
+    out: &mut [u8],
+) -> Result<TableSize, Refusal>
+    ensures answer { joined result ≡ join_answer file.now first second common (length out.old) }
+    ensures slice { out.new ≡ join_slice file.now first second common out.old }
+    ensures demands { JoinDemands file.now first second common (joined result) out.new }
 {
     check_join(file, first, second)?;
     let first_machine = Machine::load(file, first, 0);
     let second_machine = Machine::load(file, second, 0);
     let states = first_machine.pairs_with(&second_machine);
-    let rows = joins::write(&first_machine, &second_machine, out)?;
+    let rows = joins::write(&first_machine, &second_machine, common, out)?;
     Ok(TableSize { states, rows })
 }

@@ -7,7 +7,7 @@ use Rattle.questions.specs.declared.Side.{Side}
 use Rattle.input.specs.declared.operations.Operation.{Operation}
 use Rattle.input.specs.declared.operations.UnknownOperation.{UnknownOperation}
 use Rattle.input.specs.Operations.{operation_at}
-use Rattle.input.specs.Calls.{number, side, field, asked_for}
+use Rattle.input.specs.Calls.{number, low_set, side, field, asked_for}
 
 -- past the last operation there is none
 pub no_operation : (os : List Operation) (n : ℕ) → length os ≤ n → operation_at os n ≡ Err (record {})
@@ -22,8 +22,8 @@ chunk_at (suc k) (suc i) xs h =
     let next : 8 + 8 * i ≡ 8 * suc i = omega arith in
     chunk_at k i (drop 8 xs) (omega arith) ∙ ap (take 8) (drop-drop (8 * i) 8 xs ∙ ap (λ (n : ℕ). drop n xs) next)
 
--- the eight numbers of a head
-pub field_of : (head : List ℕ) (chunks : List (List ℕ)) (i : ℕ) → length head ≡ 64 → chunks ≡ first_chunks 8 (length head / 8) head → i < 8
+-- the nine numbers of a head
+pub field_of : (head : List ℕ) (chunks : List (List ℕ)) (i : ℕ) → length head ≡ 72 → chunks ≡ first_chunks 8 (length head / 8) head → i < 9
     → get_or chunks i [] ≡ field head i
 field_of head chunks i long e h = ap (λ (l : List (List ℕ)). get_or l i []) e ∙ chunk_at (length head / 8) i head (omega arith)
 
@@ -38,9 +38,26 @@ asked_some (Ok p) o head file e = let same : p ≡ o = cc in ap (λ (x : Operati
 asked_some (Err u) o head file e = cc
 
 -- the parts of a call are those that the head holds
-pub asked_by : (o : Operation) (head file : List ℕ) {mode room more : ℕ} {demand supply : Side} → mode ≡ number (field head 1)
+pub asked_by : (o : Operation) (head file : List ℕ) {mode room more set : ℕ} {demand supply : Side} → mode ≡ number (field head 1)
     → demand ≡ side (field head 2) (field head 3) → supply ≡ side (field head 4) (field head 5) → room ≡ number (field head 6) → more ≡ number (field head 7)
-    → Some (record { operation = o; mode = mode; question = record { demand = demand; supply = supply }; length = room; second_length = more; file = file })
+    → set ≡ low_set (field head 8)
+    → Some (record {
+      operation = o;
+      mode = mode;
+      question = record { demand = demand; supply = supply };
+      length = room;
+      second_length = more;
+      set = set;
+      file = file;
+    })
     ≡ asked_for (Ok o) head file
-asked_by o head file m d s l k =
-    λ i. Some (record { operation = o; mode = m i; question = record { demand = d i; supply = s i }; length = l i; second_length = k i; file = file })
+asked_by o head file m d s l k r =
+    λ i. Some (record {
+      operation = o;
+      mode = m i;
+      question = record { demand = d i; supply = s i };
+      length = l i;
+      second_length = k i;
+      set = r i;
+      file = file;
+    })

@@ -1,4 +1,4 @@
--- The call that a question names: a head of eight numbers, then a file.
+-- The call that a question names: a head of nine numbers, then a file.
 use Rattle.std.specs.Prelude.{ℕ, ◌+◌, ◌*◌, cond, ltb, List, [], ◌∷◌, length, take, drop, Option, Some, None, Result, Ok, Err}
 use Rattle.questions.specs.declared.Question.{Question}
 use Rattle.questions.specs.declared.Side.{Side}
@@ -11,6 +11,10 @@ use Rattle.input.specs.Operations.{operation_of}
 abbrev pub number : List ℕ → ℕ
 number [] = 0
 number (b ∷ bs) = b + 256 * number bs
+
+-- a set of 16 resources, by the lowest two bytes
+abbrev pub low_set : List ℕ → ℕ
+low_set bytes = number (take 2 bytes)
 
 -- a table and a state, each by the bytes of its number
 abbrev pub side : List ℕ → List ℕ → Side
@@ -27,6 +31,7 @@ pub record Asked : Type 0 where
   pub question : Question
   pub length : ℕ
   pub second_length : ℕ
+  pub set : ℕ
   pub file : List ℕ
 
 -- a head for an operation, and a file
@@ -40,6 +45,7 @@ asked_for (Ok operation) head file =
       question = record { demand = side (field head 2) (field head 3); supply = side (field head 4) (field head 5) };
       length = number (field head 6);
       second_length = number (field head 7);
+      set = low_set (field head 8);
       file = file;
     })
 
@@ -48,10 +54,19 @@ asked_in head file = asked_for (operation_of (number (field head 0))) head file
 
 -- what a question asks for; nothing where it is shorter than a head, or for another operation
 unfoldable pub asked_of : List ℕ → Option Asked
-asked_of s = cond (ltb (length s) 64) None (asked_in (take 64 s) (drop 64 s))
+asked_of s = cond (ltb (length s) 72) None (asked_in (take 72 s) (drop 72 s))
 
 -- the call that is read, as that
 abbrev pub told : Option Call → Option Asked
 told None = None
 told (Some c) =
-    Some (record { operation = c.operation; mode = c.mode; question = c.question; length = c.length; second_length = c.second_length; file = c.file.now })
+    Some
+    (record {
+      operation = c.operation;
+      mode = c.mode;
+      question = c.question;
+      length = c.length;
+      second_length = c.second_length;
+      set = c.set;
+      file = c.file.now;
+    })

@@ -3,7 +3,7 @@
 #![tactic(auto)]
 
 ghost use Rattle.std.specs.Prelude.{◌≡◌};
-ghost use Rattle.input.specs.Calls.{number, side, asked_of, told};
+ghost use Rattle.input.specs.Calls.{number, low_set, side, asked_of, told};
 
 mod operations;
 
@@ -11,9 +11,10 @@ pub use operations::{Operation, UnknownOperation};
 use questions::{Question, Side};
 
 // The bytes of a head.
-const HEAD: usize = 64;
+const HEAD: usize = 72;
 
-// A call that is asked for, with what it takes: the mode's number, which may be any, tables and states, the lengths of the lent slices, and the file.
+// A call that is asked for, with what it takes: the mode's number, which may be any, tables and states, the lengths of the lent slices, a set of
+// resources, and the file.
 #[derive(Clone, Copy)]
 pub struct Call<'a> {
     pub operation: Operation,
@@ -21,6 +22,7 @@ pub struct Call<'a> {
     pub question: Question,
     pub length: usize,
     pub second_length: usize,
+    pub set: u16,
     pub file: &'a [u8],
 }
 
@@ -38,6 +40,14 @@ fn number(bytes: &[u8; 8]) -> usize
     ensures { result ≡ number bytes.now }
 {
     usize::from_le_bytes(*bytes)
+}
+
+// The set of resources in the lowest two of eight bytes.
+fn low_set(bytes: &[u8; 8]) -> u16
+    ensures { result ≡ low_set bytes.now }
+{
+    let [low, high, ..] = *bytes;
+    u16::from_le_bytes([low, high])
 }
 
 // A side of a question, by the bytes of its numbers.
@@ -65,6 +75,7 @@ impl<'a> Call<'a> {
             second_state,
             length,
             second_length,
+            set,
         ] = head.as_chunks::<8>().0
         else {
             return None;
@@ -78,6 +89,7 @@ impl<'a> Call<'a> {
             },
             length: number(length),
             second_length: number(second_length),
+            set: low_set(set),
             file,
         })
     }

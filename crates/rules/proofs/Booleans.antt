@@ -53,6 +53,10 @@ pub or_r : (a b : Bool) → T b → T (a || b)
 or_r true b t = tt
 or_r false b t = t
 
+pub or_i : (a b : Bool) → T a ⊎ T b → T (a || b)
+or_i a b (inl t) = or_l a b t
+or_i a b (inr t) = or_r a b t
+
 pub or_cases : (a b : Bool) → T (a || b) → T a ⊎ T b
 or_cases true b t = inl tt
 or_cases false b t = inr t

@@ -8,7 +8,7 @@ use lib.Dec.{T, T_not, eqb, eqb→eq, ltb, ltb→lt}
 use lib.ListN.{length}
 use Rattle.rules.specs.declared.Row.{Row}
 use Rattle.rules.specs.Lists.{all, is_empty}
-use Rattle.rules.specs.Sets.{intersection, union, disjoint, difference, inside, larger, maximal}
+use Rattle.rules.specs.Sets.{intersection, union, shares_outside, difference, inside, larger, maximal}
 use Rattle.rules.specs.Rows.{rises}
 use Rattle.rules.specs.Machines.{Table, row_moves, state_moves, machine}
 use Rattle.rules.specs.Moves.{left_of, consumed_of, unmet_of, candidates, prunes, survivors_of, survivors, numbers}
@@ -17,7 +17,7 @@ use Rattle.rules.specs.Rounds.{has_response, slot_holds, pair_holds, is_pair, ke
 use Rattle.rules.specs.Steps.{follows, struck_by, lacks_response, step_to, last_slot, slots, steps}
 use Rattle.rules.specs.Explanations.{responses_to, last_triple, triples, triple_entries}
 use Rattle.rules.specs.Join.{insert_row, insert_rows, join_rows, join}
-use Rattle.rules.specs.Examples.{demand_e, supply_e, fin_only, demand_fifth, demand_sixth, then_fin, once, at_most_once, repeated, two_slots, one_or_two, stuck_supply, nothing_or_one, six_or_seven, repeats_or_ends, uneven_demand, uneven_supply, examples}
+use Rattle.rules.specs.Examples.{demand_e, supply_e, fin_only, demand_fifth, demand_sixth, then_fin, once, at_most_once, repeated, two_slots, ends_or_repeats, one_or_two, stuck_supply, nothing_or_one, six_or_seven, repeats_or_ends, uneven_demand, uneven_supply, examples}
 use Rattle.rules.specs.Examples.{Example, Means, moves_are, marks_are, counts_are, says_yes, says_no, run_is, triples_are, join_is, join_count, is_stuck}
 use Rattle.rules.proofs.Booleans.{eq-T, and_l, and_r}
 use Rattle.rules.proofs.ListLaws.{all-each}
@@ -74,8 +74,8 @@ test (says_yes mode D S t s) = ltb t D.n && (ltb s S.n && eqb (mark mode (machin
 test (says_no mode D S t s) = ltb t D.n && (ltb s S.n && not (eqb (mark mode (machine D) (machine S) t s) 0))
 test (run_is mode D S t s l) = same_numbers (steps mode (machine D) (machine S) t s) l
 test (triples_are mode D S t s l) = same_numbers (triple_entries mode (machine D) (machine S) t s) l
-test (join_is A B J) = same_table (join (machine A) (machine B)) J
-test (join_count A B m) = eqb (length (join (machine A) (machine B)).rows) m
+test (join_is common A B J) = same_table (join common (machine A) (machine B)) J
+test (join_count common A B m) = eqb (length (join common (machine A) (machine B)).rows) m
 test (is_stuck A q) = ltb q A.n && is_empty (state_moves A.rows q)
 
 empty_list : {A : Type 0} (l : List A) → T (is_empty l) → l ≡ []
@@ -99,14 +99,14 @@ tested (says_no mode D S t s) h =
     (λ h e. T_not (eqb (mark mode (machine D) (machine S) t s) 0) h (eq-T (mark mode (machine D) (machine S) t s) 0 e)) h
 tested (run_is mode D S t s l) h = equal_list eqb eqb→eq (steps mode (machine D) (machine S) t s) l h
 tested (triples_are mode D S t s l) h = equal_list eqb eqb→eq (triple_entries mode (machine D) (machine S) t s) l h
-tested (join_is A B J) h = equal_table (join (machine A) (machine B)) J h
-tested (join_count A B m) h = eqb→eq (length (join (machine A) (machine B)).rows) m h
+tested (join_is common A B J) h = equal_table (join common (machine A) (machine B)) J h
+tested (join_count common A B m) h = eqb→eq (length (join common (machine A) (machine B)).rows) m h
 tested (is_stuck A q) h =
     let empty : Bool = is_empty (state_moves A.rows q) in
     (ltb→lt q A.n (and_l (ltb q A.n) empty h), empty_list (state_moves A.rows q) (and_r (ltb q A.n) empty h))
 
 passed : T (all test examples)
-unfolding examples test same_numbers same_list same_table same_row flat_map demand_e supply_e fin_only demand_fifth demand_sixth then_fin once at_most_once repeated two_slots one_or_two stuck_supply nothing_or_one six_or_seven repeats_or_ends uneven_demand uneven_supply intersection union difference inside larger maximal rises row_moves state_moves left_of consumed_of unmet_of candidates prunes survivors_of numbers has_response slot_holds pair_holds is_pair keeps losing mark_by mark marks count_pairs running_count follows struck_by lacks_response step_to last_slot slots steps responses_to last_triple triples triple_entries disjoint insert_row insert_rows join_rows join
+unfolding examples test same_numbers same_list same_table same_row flat_map demand_e supply_e fin_only demand_fifth demand_sixth then_fin once at_most_once repeated two_slots ends_or_repeats one_or_two stuck_supply nothing_or_one six_or_seven repeats_or_ends uneven_demand uneven_supply intersection union difference inside larger maximal rises row_moves state_moves left_of consumed_of unmet_of candidates prunes survivors_of numbers has_response slot_holds pair_holds is_pair keeps losing mark_by mark marks count_pairs running_count follows struck_by lacks_response step_to last_slot slots steps responses_to last_triple triples triple_entries shares_outside insert_row insert_rows join_rows join
 passed = tt
 
 -- every example of the table holds

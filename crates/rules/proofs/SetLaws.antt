@@ -3,15 +3,15 @@
 use Prim.Native.Nat.{ℕ, zero, suc, ◌-◌, ◌/◌, ◌%◌, ◌^◌, ◌≤◌, ◌<◌, min, max}
 use mathlib.Core.Path.{◌≡◌, refl, sym, ap, ap₂, ◌∙◌, subst}
 use mathlib.Core.Bool.{Bool, true, false, not, ◌&&◌, ◌||◌, true≢false}
-use mathlib.Core.Logic.{◌⊎◌, inl, inr}
+use mathlib.Core.Logic.{◌⊎◌, inl, inr, ◌↔◌}
 use native.Mathlib.Omega.{arith}
 use native.Mathlib.Nat.{div-one, div-div-eq-div-mul, pow-suc, mul_comm, div-eq_of_lt, lt_of_lt_of_le}
 use lib.Dec.{T, T_not, not_T, eqb, eqb→eq, ltb, ltb→lt, nltb→le}
 use lib.Arith.{bin_ind, lt_of_le-ne}
 use lib.Bits.{bit_and, bit_or, and_step, or_step, and_comm, and_self, and_le_l, and_le_r, or_lt}
 use lib.Pow.{pow_mono}
-use Rattle.rules.specs.Sets.{has, intersection, union, difference, disjoint, inside, larger}
-use Rattle.rules.proofs.Booleans.{T-same, T_true, T_false, T-or, eq-T, and_i, and_l, and_r}
+use Rattle.rules.specs.Sets.{has, intersection, union, difference, disjoint, shares_outside, inside, larger}
+use Rattle.rules.proofs.Booleans.{T-same, T_true, T_false, T-or, eq-T, and_i, and_l, and_r, or_i, or_cases}
 
 -- ---- one digit at a time
 
@@ -141,6 +141,18 @@ has-none r = has-difference r 0 0 ∙ go (has r 0)
     go true = refl
     go false = refl
 
+-- a set is the union of two exactly if its resources are those that are in one or in both
+pub union_exactly : (c a b : ℕ) → (c ≡ union a b) ↔ ((r : ℕ) → T (has r c) ↔ (T (has r a) ⊎ T (has r b)))
+union_exactly c a b = (
+  λ e r. (
+    λ t. or_cases (has r a) (has r b) (subst T (has-union r a b) (subst (λ (x : ℕ). T (has r x)) e t)),
+    λ s. subst (λ (x : ℕ). T (has r x)) (sym e) (subst T (sym (has-union r a b)) (or_i (has r a) (has r b) s)),
+  ),
+  λ h. same_resources c (union a b) (λ r.
+      T-same (has r c) (has r a || has r b) (λ t. or_i (has r a) (has r b) ((h r).0 t)) (λ t. (h r).1 (or_cases (has r a) (has r b) t))
+      ∙ sym (has-union r a b)),
+)
+
 -- sets without a common resource
 pub apart_empty : (a b : ℕ) → ((r : ℕ) → (has r a && has r b) ≡ false) → intersection a b ≡ 0
 apart_empty a b h = same_resources (intersection a b) 0 (λ r. has-intersection r a b ∙ h r ∙ sym (has-none r))
@@ -220,6 +232,45 @@ inside-empty a b p = omega (arith, inside-eq a b p)
 pub inside-intersection : (a b : ℕ) → T (inside a b) → intersection a b ≡ a
 unfolding intersection
 inside-intersection a b p = inside-eq a b p
+
+-- a set has all of a union exactly if it has all of both
+pub union_inside : (a b c : ℕ) → T (inside (union a b) c) ↔ (T (inside a c) × T (inside b c))
+union_inside a b c = (
+  λ t. (
+    has-inside a c (λ r p. inside-has (union a b) c t r (((union_exactly (union a b) a b).0 refl r).1 (inl p))),
+    has-inside b c (λ r p. inside-has (union a b) c t r (((union_exactly (union a b) a b).0 refl r).1 (inr p))),
+  ),
+  λ (s, t). has-inside (union a b) c (λ r p. go s t r (((union_exactly (union a b) a b).0 refl r).0 p)),
+)
+  where
+    go : T (inside a c) → T (inside b c) → (r : ℕ) → T (has r a) ⊎ T (has r b) → T (has r c)
+    go s t r (inl p) = inside-has a c s r p
+    go s t r (inr p) = inside-has b c t r p
+
+-- ---- resources that two sets share outside a common set
+
+-- the test, resource by resource
+pub shares_outside-has : (common a b : ℕ) → T (shares_outside common a b) ↔ ((r : ℕ) × T (has r a) × T (has r b) × (T (has r common) → ⊥))
+unfolding shares_outside
+shares_outside-has common a b = (
+  λ t.
+      let (r, h) = some_resource (difference both common) (λ e. T_not (inside both common) t (empty_inside both common e)) in
+      let apart : T (has r both && not (has r common)) = subst T (has-difference r both common) h in
+      let shared : T (has r a && has r b) = subst T (has-intersection r a b) (and_l (has r both) (not (has r common)) apart) in
+      (r, and_l (has r a) (has r b) shared, and_r (has r a) (has r b) shared, T_not (has r common) (and_r (has r both) (not (has r common)) apart)),
+  λ (r, p, q, n). not_T (inside both common) (λ t. n (inside-has both common t r (subst T (sym (has-intersection r a b)) (and_i (has r a) (has r b) p q)))),
+)
+  where
+    both : ℕ
+    both = intersection a b
+
+-- outside the empty set: any resource
+pub outside_none : (a b : ℕ) → shares_outside 0 a b ≡ not (disjoint a b)
+unfolding shares_outside disjoint
+outside_none a b =
+    let both = intersection a b in
+    ap not (T-same (inside both 0) (eqb both 0) (λ t. eq-T both 0 (let least = inside-le both 0 t in omega arith))
+    (λ t. subst (λ (x : ℕ). T (inside x 0)) (sym (eqb→eq both 0 t)) (inside-refl 0)))
 
 -- ---- sets of w resources: the numbers below 2 ^ w
 

@@ -39,6 +39,10 @@ unmet B G = difference B G
 unfoldable pub inside : ℕ → ℕ → Bool
 inside a b = eqb (bit_and a b) a
 
+-- 02, L4: two sets "share a resource outside that set", the set of common resources
+unfoldable pub shares_outside : ℕ → ℕ → ℕ → Bool
+shares_outside common a b = not (inside (intersection a b) common)
+
 -- 01, 'Moves': a is "strictly larger" than b, "by inclusion"
 unfoldable pub larger : ℕ → ℕ → Bool
 larger a b = inside b a && not (eqb a b)

@@ -4,7 +4,7 @@
 #![tactic(auto)]
 
 ghost use Rattle.std.specs.Prelude.{◌≡◌};
-ghost use Rattle.rules.specs.Sets.{difference, disjoint, left, consumed, unmet, inside, larger};
+ghost use Rattle.rules.specs.Sets.{difference, shares_outside, left, consumed, unmet, inside, larger};
 ghost use Rattle.rules.specs.Rows.{row, move, idle, rises};
 ghost use Rattle.rules.specs.Moves.{left_of, consumed_of, unmet_of};
 
@@ -146,11 +146,11 @@ pub fn is_larger(a: u16, b: u16) -> bool
     if a == b { false } else { is_inside(b, a) }
 }
 
-// Whether a and b share no resource.
-pub fn is_disjoint(a: u16, b: u16) -> bool
-    ensures { result ≡ disjoint a b }
+// Whether a and b share a resource outside the common ones.
+pub fn shares_outside(common: u16, a: u16, b: u16) -> bool
+    ensures { result ≡ shares_outside common a b }
 {
-    a & b == 0
+    !is_inside(a & b, common)
 }
 
 // The resources of a that are not in b.

@@ -1,5 +1,6 @@
 -- `checker::join` meets its contract. What turns back the two tables is handed on; then the engine's answer decides.
 use mathlib.Core.Path.{sym, ◌∙◌}
+use native.Mathlib.Omega.{arith}
 use Rattle.std.proofs.Common.{Ok, Err}
 use Rattle.tables.proofs.CheckLaws.{handed_on, then_fault, turned_back_lem}
 use Rattle.checker.specs.Join.{join_checks, join_answer, join_slice}
@@ -9,7 +10,10 @@ use Rattle.checker.proofs.join.Goals as goal
 
 pub returns-in_err-check_join : goal.returns-in_err-check_join
 unfolding join_checks join_answer join_slice
-returns-in_err-check_join c = rw (handed_on _ _ c.from_residual.ensures.1) (as_answer_slice_demands (joined_table _ _ _ _ _ (Err _) (turned_back_lem _ _ _ _ _ (then_fault _ _ _ (sym c.check_join.ensures ∙ c.in_err-check_join.was)))))
+returns-in_err-check_join c =
+    rw (handed_on _ _ c.from_residual.ensures.1)
+    (as_answer_slice_demands (joined_table _ _ _ _ _ _ (Err _)
+    (turned_back_lem _ _ _ _ _ (then_fault _ _ _ (sym c.check_join.ensures ∙ c.in_err-check_join.was)))))
 
 pub load-first_machine-requires : goal.load-first_machine-requires
 load-first_machine-requires c = first_filed _ _ _ (sym c.check_join.ensures ∙ c.in_ok-check_join.was)
@@ -22,12 +26,14 @@ write-requires c = product_few _ _ _ (sym c.check_join.ensures ∙ c.in_ok-check
 
 pub returns-in_err-rows : goal.returns-in_err-rows
 returns-in_err-rows c =
-    let written = write_answers _ _ _ (sym c.check_join.ensures ∙ c.in_ok-check_join.was) c.load-first_machine.ensures c.load-second_machine.ensures c.pairs_with-states.ensures _ _ c.write.ensures.answer
-    c.write.ensures.slice c.in_err-rows.was in
-    rw (handed_on _ _ c.from_residual-in_err-rows.ensures.1) (as_answer_slice_demands (joined_table _ _ _ _ _ (Err _) (written.answer, written.slice)))
+    let written =
+    write_answers _ _ _ (sym c.check_join.ensures ∙ c.in_ok-check_join.was) c.load-first_machine.ensures c.load-second_machine.ensures c.args.common
+    (omega arith) c.pairs_with-states.ensures _ _ c.write.ensures.answer c.write.ensures.slice c.in_err-rows.was in
+    rw (handed_on _ _ c.from_residual-in_err-rows.ensures.1) (as_answer_slice_demands (joined_table _ _ _ _ _ _ (Err _) (written.answer, written.slice)))
 
 pub returns : goal.returns
 returns c =
-    let written = write_answers _ _ _ (sym c.check_join.ensures ∙ c.in_ok-check_join.was) c.load-first_machine.ensures c.load-second_machine.ensures c.pairs_with-states.ensures _ _ c.write.ensures.answer
-    c.write.ensures.slice c.in_ok-rows.was in
-    as_answer_slice_demands (joined_table _ _ _ _ _ (Ok _) (written.answer, written.slice))
+    let written =
+    write_answers _ _ _ (sym c.check_join.ensures ∙ c.in_ok-check_join.was) c.load-first_machine.ensures c.load-second_machine.ensures c.args.common
+    (omega arith) c.pairs_with-states.ensures _ _ c.write.ensures.answer c.write.ensures.slice c.in_ok-rows.was in
+    as_answer_slice_demands (joined_table _ _ _ _ _ _ (Ok _) (written.answer, written.slice))
