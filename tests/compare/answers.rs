@@ -218,7 +218,8 @@ fn two_tables<'a>(
     Ok(found)
 }
 
-/// The demand and supply tables and the pair of states: 11, 12, then 13.
+/// The demand and supply tables with the standing resources, and the pair of
+/// states: 11, 12, then 13.
 fn tables_and_pair<'a>(
     question: &Question,
     tables: &'a [Table],
@@ -228,7 +229,7 @@ fn tables_and_pair<'a>(
         return refuse(13, 0);
     }
     let pair = Pair { demand: question.demand_state, supply: question.supply_state };
-    Ok((Tables { demand, supply }, pair))
+    Ok((Tables { demand, supply, standing: question.resources() }, pair))
 }
 
 fn mode_of(question: &Question) -> Result<Mode, Refusal> {

@@ -91,8 +91,8 @@ fn join_question(words: &mut Words) -> Result<Question, String> {
     Ok(question)
 }
 
-/// `[MODE] DEMAND SUPPLY from STATE STATE room ENTRIES [ENTRIES]`, the mode for
-/// Decide, Run and Explain, the second number of entries for Run and Explain.
+/// `[MODE] DEMAND SUPPLY from STATE STATE [standing SET] room ENTRIES [ENTRIES]`, the
+/// mode for Decide, Run and Explain, the second number of entries for Run and Explain.
 fn pair_question(operation: Operation, words: &mut Words) -> Result<Question, String> {
     let mut question = blank(operation);
     if [Operation::Decide, Operation::Run, Operation::Explain].contains(&operation) {
@@ -106,6 +106,7 @@ fn pair_question(operation: Operation, words: &mut Words) -> Result<Question, St
     words.take_this("from")?;
     question.demand_state = words.number()?;
     question.supply_state = words.number()?;
+    question.set = words.set_behind("standing")?;
     words.take_this("room")?;
     question.first_length = words.number()?;
     question.second_length = match operation {

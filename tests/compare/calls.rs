@@ -4,11 +4,11 @@
 use crate::drafts::{draft, file_of, table_with_rows, Draft, DEMAND, SUPPLY};
 use crate::file::{open, Kind, Table, MOST_STATES};
 use crate::graph::graph;
-use crate::question::{Operation, Question};
+use crate::question::{Operation, Question, STANDING_OPERATIONS};
 use crate::random::Random;
 use crate::report::report;
-use crate::rules::{combined_moves, explain, join, marks, Mode, Pair, Tables};
-use crate::sets::{any_set, common_set};
+use crate::rules::{combined_moves, explain, join, marks, Mode, Pair, Tables, FIN};
+use crate::sets::{any_set, common_set, standing_set};
 
 /// The longest slice that a question can ask for.
 const LONGEST_SLICE: usize = 65_535;
@@ -89,7 +89,10 @@ fn exact_question(random: &mut Random, file: &[u8], operation: Operation) -> Que
     };
     let from_start = random.chance(1, 2);
     let demand_state = random_state(random, tables.get(first_table), from_start);
-    let supply_state = random_state(random, tables.get(second_table), from_start);
+    let supply_state = match random.chance(1, 8) {
+        true => FIN,
+        false => random_state(random, tables.get(second_table), from_start),
+    };
     let mut question = Question {
         operation,
         mode: random.below(2),
@@ -102,15 +105,24 @@ fn exact_question(random: &mut Random, file: &[u8], operation: Operation) -> Que
         set: any_set(random),
     };
     if let (Some(first), Some(second)) = (tables.get(first_table), tables.get(second_table)) {
-        if operation == Operation::Join {
-            question.set = common_set(random, first, second);
-        }
+        question.set = set_for(random, operation, first, second);
         set_exact_lengths(&mut question, first, second);
     }
     if operation == Operation::Report {
         question.first_length = length_of_report(file);
     }
     question
+}
+
+/// The set of resources for a call on two tables.
+fn set_for(random: &mut Random, operation: Operation, first: &Table, second: &Table) -> usize {
+    if operation == Operation::Join {
+        return common_set(random, first, second);
+    }
+    if STANDING_OPERATIONS.contains(&operation) {
+        return standing_set(random, first, second);
+    }
+    any_set(random)
 }
 
 /// The length of the text of `slots`, as far as a slice can be that long.
@@ -141,7 +153,7 @@ fn random_state(random: &mut Random, table: Option<&Table>, from_start: bool) ->
 
 fn set_exact_lengths(question: &mut Question, first: &Table, second: &Table) {
     let count_of_pairs = first.states * second.states;
-    let tables = Tables { demand: first, supply: second };
+    let tables = Tables { demand: first, supply: second, standing: question.resources() };
     let pair = Pair { demand: question.demand_state, supply: question.supply_state };
     match question.operation {
         Operation::Moves => {
@@ -346,7 +358,8 @@ pub fn join_at_limit(random: &mut Random, turn: usize) -> (Vec<u8>, Question) {
 pub const WIDE: usize = 8;
 
 /// Moves of a pair with very many moves: around the longest slice, and with
-/// five times the count at or above 65,536. `which` counts below `WIDE`.
+/// five times the count at or above 65,536. Resource 0, which may stand, is one that
+/// no demand of the first six requests. `which` counts below `WIDE`.
 pub fn wide_moves(random: &mut Random, which: usize) -> (Vec<u8>, Question) {
     let (demand, supply, length) = match which {
         0 => (unmet_rows(257), granting_rows(51), 65_535),
@@ -367,7 +380,7 @@ pub fn wide_moves(random: &mut Random, which: usize) -> (Vec<u8>, Question) {
         supply_state: 1,
         first_length: length,
         second_length: 0,
-        set: 0,
+        set: random.below(2),
     };
     (file_of(&[supply, demand]), question)
 }
@@ -391,7 +404,8 @@ fn granting_rows(count: usize) -> Draft {
 pub const WIDE_TRIPLES: usize = 6;
 
 /// Explain of a kept pair with very many triples: around the longest slice, and
-/// with three times the count, or the count itself, at or above 65,536. `which`
+/// with three times the count, or the count itself, at or above 65,536; every other
+/// time with resources 11 to 15 standing, which make supply rows alike. `which`
 /// counts below `WIDE_TRIPLES`.
 pub fn wide_triples(which: usize) -> (Vec<u8>, Question) {
     let (demand, supply, second_length) = match which {
@@ -411,7 +425,7 @@ pub fn wide_triples(which: usize) -> (Vec<u8>, Question) {
         supply_state: 1,
         first_length: 10,
         second_length,
-        set: 0,
+        set: which % 2 * 63_488,
     };
     (file_of(&[fitting_rows(demand), holding_rows(supply)]), question)
 }

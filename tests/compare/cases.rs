@@ -15,6 +15,7 @@ use crate::faults::{
 };
 use crate::question::{Operation, HEAD_LENGTH, RANDOM_OPERATIONS};
 use crate::random::Random;
+use crate::standing::standing_question;
 use crate::wide::{wide_graph, WIDE_GRAPHS};
 
 #[derive(Clone, Copy, PartialEq, Eq)]
@@ -62,7 +63,7 @@ const fn kind(name: &'static str, often: usize, make: fn(&mut Random, usize) -> 
     Kind { name, often, make }
 }
 
-const ROTATION: [Kind; 31] = [
+const ROTATION: [Kind; 32] = [
     kind("slots, random tables", 3, slots_random),
     kind("slots, cycles and chains", 1, slots_cycles),
     kind("slots, branching tables", 2, slots_branching),
@@ -91,6 +92,7 @@ const ROTATION: [Kind; 31] = [
     kind("calls, Join of random tables", 2, calls_join),
     kind("calls, Join at a limit", 1, calls_join_limit),
     kind("calls, very many moves or triples", 1, calls_wide),
+    kind("calls, standing resources", 4, calls_standing),
     kind("calls, Report", 3, calls_report),
     kind("calls, Graph", 3, calls_graph),
     kind("calls, no whole question", 1, calls_nothing),
@@ -245,6 +247,7 @@ fn calls_cycles(random: &mut Random, turn: usize) -> Made {
     let operation = [Operation::Run, Operation::Explain][turn % 2];
     let mut question = likely_question(random, &file, operation);
     if turn < 2 {
+        question.set = 0;
         (question.demand_state, question.supply_state) = (1, 1);
         (question.first_length, question.second_length) = (64 * 63, 2 * 64 * 63);
     }
@@ -348,6 +351,11 @@ fn calls_wide(random: &mut Random, turn: usize) -> Made {
     }
     let file = sound_file(random);
     for_calls(likely_question(random, &file, Operation::Moves).before(&file))
+}
+
+fn calls_standing(random: &mut Random, turn: usize) -> Made {
+    let (file, question) = standing_question(random, turn);
+    for_calls(question.before(&file))
 }
 
 /// How many sorts of file Report gets.

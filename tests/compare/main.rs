@@ -23,6 +23,7 @@ mod random;
 mod report;
 mod rules;
 mod sets;
+mod standing;
 mod tally;
 mod wide;
 mod words;

@@ -46,6 +46,15 @@ pub const RANDOM_OPERATIONS: [Operation; 9] = [
     Operation::Explain,
 ];
 
+/// Those that take a set of standing resources.
+pub const STANDING_OPERATIONS: [Operation; 5] = [
+    Operation::Moves,
+    Operation::Decide,
+    Operation::Run,
+    Operation::Graph,
+    Operation::Explain,
+];
+
 #[derive(Clone, Copy)]
 pub struct Question {
     pub operation: Operation,
@@ -56,7 +65,8 @@ pub struct Question {
     pub supply_state: usize,
     pub first_length: usize,
     pub second_length: usize,
-    /// A set of resources, of which the lowest 16 bits are read.
+    /// A set of resources, of which the lowest 16 bits are read: of Join the common
+    /// ones, of `STANDING_OPERATIONS` those that stand.
     pub set: usize,
 }
 

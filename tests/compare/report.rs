@@ -1,4 +1,5 @@
-//! What the program `slots` prints, by the paper's section 'The program'.
+//! What the program `slots` prints, by the paper's section 'The program'; there no
+//! resource stands.
 
 use crate::answers::{Answer, Decision};
 use crate::file::{open, refuse, Kind, Refusal, Table, LONGEST_READ};
@@ -16,7 +17,8 @@ fn report_file(file: &[u8]) -> Result<Answer, Refusal> {
     let all = open(file)?;
     let demand_number = first_of_kind(&all, Kind::Demand)?;
     let supply_number = first_of_kind(&all, Kind::Supply)?;
-    let tables = Tables { demand: &all[demand_number], supply: &all[supply_number] };
+    let (demand, supply) = (&all[demand_number], &all[supply_number]);
+    let tables = Tables { demand, supply, standing: 0 };
     let start = Pair { demand: start_of(tables.demand), supply: start_of(tables.supply) };
     let mut text = format!("slots {} bytes {} tables\n", file.len(), all.len());
     text += &format!("demand {demand_number} supply {supply_number} ");

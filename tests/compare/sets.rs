@@ -28,6 +28,24 @@ pub fn common_set(random: &mut Random, first: &Table, second: &Table) -> usize {
     with_higher_bits(random, set)
 }
 
+/// Standing resources for a demand beside a supply: often none, or all, or any; or
+/// one that the demand requests, most often one that some supply row does not grant;
+/// or some that a table uses, or some that neither uses.
+pub fn standing_set(random: &mut Random, demand: &Table, supply: &Table) -> usize {
+    let used = demand.resources() | supply.resources();
+    let scarce = !supply.rows.iter().fold(u16::MAX, |all, row| all & row.set);
+    let set = match random.below(16) {
+        0..=4 => 0,
+        5 => u16::MAX,
+        6 | 7 => random.next() as u16,
+        8..=10 => one_of(random, demand.resources() & scarce),
+        11 => one_of(random, demand.resources()),
+        12 | 13 => part_of(random, used),
+        _ => part_of(random, !used),
+    };
+    with_higher_bits(random, set)
+}
+
 /// A resource of a set; none where the set is empty.
 fn one_of(random: &mut Random, set: u16) -> u16 {
     let all = (0..16).map(|resource| 1 << resource);

@@ -3,8 +3,9 @@
 use crate::answers::{answer, Answer, Decision, Explanation};
 use crate::cases::Program;
 use crate::file::open;
-use crate::question::{Operation, Question, HEAD_LENGTH};
+use crate::question::{Operation, Question, HEAD_LENGTH, STANDING_OPERATIONS};
 use crate::rules::{Mode, NO_ROW};
+use crate::standing::{has_to_come, sorts_of, STANDINGS};
 
 const COLUMNS: [&str; 13] = [
     "slots", "aut", "Open", "Body", "Moves", "Decide", "Run", "Join", "Report", "Readers",
@@ -46,6 +47,8 @@ pub struct Tally {
     verdicts_of_slots: [usize; VERDICTS.len()],
     explanations: [usize; EXPLANATIONS.len()],
     joins: [usize; JOINS.len()],
+    /// For each sort the operations, as they stand in `STANDING_OPERATIONS`.
+    standings: [[usize; STANDING_OPERATIONS.len()]; STANDINGS.len()],
 }
 
 impl Tally {
@@ -62,6 +65,7 @@ impl Tally {
             verdicts_of_slots: [0; VERDICTS.len()],
             explanations: [0; EXPLANATIONS.len()],
             joins: [0; JOINS.len()],
+            standings: [[0; STANDING_OPERATIONS.len()]; STANDINGS.len()],
         }
     }
 
@@ -85,8 +89,8 @@ impl Tally {
         if let Some(explanation) = &answer.explanation {
             self.count_explanation(explanation);
         }
-        if let Some(question) = question.filter(|found| found.operation == Operation::Join) {
-            self.count_join(&question, &input[HEAD_LENGTH..], answer);
+        if let Some(question) = question {
+            self.count_sets(&question, &input[HEAD_LENGTH..], answer);
         }
         if program == Program::Aut {
             self.longest_text = self.longest_text.max(answer.text.len());
@@ -122,6 +126,20 @@ impl Tally {
         self.explanations[6] += above.any(|mark| Some(mark) != first) as usize;
     }
 
+    /// Counts what the set of a question led to, where its call reads one.
+    fn count_sets(&mut self, question: &Question, file: &[u8], answer: &Answer) {
+        let operation = question.operation;
+        if operation == Operation::Join {
+            self.count_join(question, file, answer);
+        }
+        if let Some(place) = STANDING_OPERATIONS.iter().position(|one| *one == operation) {
+            let sorts = sorts_of(question, file, answer);
+            for (counts, found) in self.standings.iter_mut().zip(sorts) {
+                counts[place] += found as usize;
+            }
+        }
+    }
+
     /// Holds a join to the same one with no common resources.
     fn count_join(&mut self, question: &Question, file: &[u8], joined: &Answer) {
         let plain = answer(&Question { set: 0, ..*question }.before(file));
@@ -153,6 +171,11 @@ impl Tally {
         }
         for kind in 0..JOINS.len() {
             self.joins[kind] += other.joins[kind];
+        }
+        for (counts, others) in self.standings.iter_mut().zip(other.standings) {
+            for (count, other) in counts.iter_mut().zip(others) {
+                *count += other;
+            }
         }
         self.nothing_printed += other.nothing_printed;
         self.full_yes += other.full_yes;
@@ -186,12 +209,23 @@ impl Tally {
         println!("slots: {}", listed(&VERDICTS, &self.verdicts_of_slots));
         println!("explained: {}", listed(&EXPLANATIONS, &self.explanations));
         println!("joined: {}", listed(&JOINS, &self.joins));
+        for (sort, name) in STANDINGS.iter().enumerate() {
+            let (operations, counts): (Vec<_>, Vec<_>) = self.standing(sort).into_iter().unzip();
+            println!("{name}: {}", listed(&operations, &counts));
+        }
         println!("longest run: {} steps", self.longest_run);
         println!("longest text of aut: {} bytes", self.longest_text);
     }
 
+    /// How often a sort of `STANDINGS` came, for each operation for which it has to.
+    fn standing(&self, sort: usize) -> Vec<(&'static str, usize)> {
+        let all = STANDING_OPERATIONS.iter().zip(self.standings[sort]);
+        let due = all.filter(|(operation, _)| has_to_come(sort, **operation));
+        due.map(|(operation, count)| (COLUMNS[2 + *operation as usize], count)).collect()
+    }
+
     /// What no case hit, as sentences: numbers of the calls, verdicts of `slots`,
-    /// explanations, joins, a long run, a long text.
+    /// explanations, joins, standing sets, a long run, a long text.
     pub fn missing(&self) -> Vec<String> {
         let mut sentences = Vec::new();
         for number in 0..NUMBERS {
@@ -214,6 +248,11 @@ impl Tally {
         for (name, count) in JOINS.iter().zip(self.joins) {
             if count == 0 {
                 sentences.push(format!("no join was {name}"));
+            }
+        }
+        for (sort, name) in STANDINGS.iter().enumerate() {
+            for (operation, _) in self.standing(sort).iter().filter(|(_, count)| *count == 0) {
+                sentences.push(format!("no case of {operation} was {name}"));
             }
         }
         if self.longest_run < LONG_RUN {

@@ -8,7 +8,8 @@ ghost use Rattle.bench_calls.specs.Packed.{asked, packed};
 
 use checker::{Question, Side};
 
-// Decide, from the same state of both tables, by the mode's number, since any may be passed: its answer as one number, and the marks as it writes them.
+// Decide, from the same state of both tables and with no standing set, by the mode's number, since any may be passed: its answer as one number, and the
+// marks as it writes them.
 #[unsafe(no_mangle)]
 pub extern "C" fn bench_decide(
     file: &[u8],
@@ -30,6 +31,7 @@ pub extern "C" fn bench_decide(
             table: supply,
             state,
         },
+        standing: 0,
     };
     let decided = checker::decide(file, question, mode, marks);
     match decided {

@@ -56,8 +56,9 @@ pub(crate) fn explain(call: Call) {
 pub(crate) fn join(call: Call) {
     let first = call.question.demand.table;
     let second = call.question.supply.table;
+    let common = call.question.standing;
     lent::bytes(call, |out| {
-        let found = checker::join(call.file, first, second, call.set, out);
+        let found = checker::join(call.file, first, second, common, out);
         tell(found.map(|size| (size.states, size.rows, 0)));
     });
 }

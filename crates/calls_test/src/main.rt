@@ -8,7 +8,8 @@
 //   1 mode
 //   2 first table (the demand; for the readers the number of entry and row)    3 its state    4 second table (the supply)    5 its state
 //   6 entries of the first lent slice (of Join, `report::write` and Graph: bytes)    7 entries of the second
-//   8 a set of resources, of which the lowest 16 bits are read: of Join the common ones
+//   8 a set of resources, of which the lowest 16 bits are read: the standing set of Moves of a pair, Decide, Run, Graph and Explain, the common resources of
+//     Join
 // The first line of an answer is the number and the place, 0 and 0 where the call is carried out, and three values that it returns, 0 where there are
 // fewer. The lines after it are the slices, every entry of them: two for Moves of a pair, Decide, Run and Explain, of which Run and Explain are lent the
 // second; one of bytes for Join, `report::write` and Graph; for Body the bytes of the part that it returns. What slices hold before the call:

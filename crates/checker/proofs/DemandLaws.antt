@@ -31,7 +31,7 @@ use Rattle.marks.proofs.RoundLaws.{has-marks}
 use Rattle.questions.specs.declared.Question.{Question}
 use Rattle.questions.specs.Pairs.{pair_checks, demand_of, supply_of}
 use Rattle.questions.specs.Modes.{mode_of}
-use Rattle.questions.proofs.PairLaws.{asked_demand, asked_supply, table_at_sound}
+use Rattle.questions.proofs.PairLaws.{asked_demand, asked_supply, demand_sound, supply_sound}
 use Rattle.checker.specs.Calls.{decided}
 use Rattle.checker.specs.Decide.{decide_checks, decide_answer, decide_slice}
 use Rattle.checker.specs.Demands.{KeptIn, MarksDemand, SecondDemand, ThirdDemand, ThirdDemandAll, DecideDemands}
@@ -204,8 +204,7 @@ module _ (file : List ℕ) (q : Question) (mode : ℕ) (entry exit : List ℕ) (
   pub second_demand : SecondDemand (mode_of mode) D S q.demand.state q.supply.state verdict highest exit
   second_demand =
       second (mode_of mode) D S q.demand.state q.supply.state verdict kept highest exit tells
-      (table_at_sound file q.demand.table q.demand.state (asked_demand file q asked))
-      (table_at_sound file q.supply.table q.supply.state (asked_supply file q asked))
+      (demand_sound file q asked) (supply_sound file q asked)
 
   pub third_demand : ThirdDemand (mode_of mode) D S q.demand.state q.supply.state verdict kept exit
   third_demand = third (mode_of mode) D S q.demand.state q.supply.state verdict kept highest exit tells

@@ -10,10 +10,9 @@ use lib.Seq.{take_at}
 use borrow.Author.Tests.{lt-ltb, le-ltb}
 use Rattle.rules.specs.declared.Mode.{Mode}
 use Rattle.rules.specs.Slices.{write_at, overwrite}
-use Rattle.rules.specs.Machines.{Machine, Sound, Rises}
+use Rattle.rules.specs.Machines.{Machine}
 use Rattle.rules.specs.Rounds.{mark, mark_at, marks}
 use Rattle.rules.specs.Explanations.{AreTriples, Explains, triples_at, triple_numbers, triple_entries}
-use Rattle.rules.proofs.MachineLaws.{moves_rise}
 use Rattle.rules.proofs.MarkLaws.{length-marks}
 use Rattle.rules.proofs.SliceLaws.{write_at-overwrite}
 use Rattle.rules.proofs.ExplanationLaws.{triples_are, triples_same, triples_explain, length-triple_numbers}
@@ -21,7 +20,6 @@ use Rattle.tables.specs.declared.Refusal.{Refusal}
 use Rattle.tables.specs.declared.Reason.TheVariants.{NoRoom}
 use Rattle.tables.specs.Checks.{Checked, refuse, fault, ◌then◌}
 use Rattle.tables.specs.Answers.{answer, carried_out, slice_after, counted}
-use Rattle.tables.specs.Tables.{table_of}
 use Rattle.tables.proofs.CheckLaws.{then_left, then_fault, passed}
 use Rattle.std.proofs.Common.{Result, Ok, Err}
 use Rattle.machines.specs.declared.machine.Machine.{Machine as Memory}
@@ -35,7 +33,7 @@ use Rattle.questions.specs.declared.Loaded.{Loaded}
 use Rattle.questions.specs.declared.Question.{Question}
 use Rattle.questions.specs.Pairs.{pair_checks, demand_of, supply_of, PairLoaded}
 use Rattle.questions.specs.Modes.{mode_of, mode_checks}
-use Rattle.questions.proofs.PairLaws.{asked_demand, asked_supply, table_at_sound}
+use Rattle.questions.proofs.PairLaws.{asked_demand, asked_supply, demand_sound, supply_sound, demand_rises, supply_rises}
 use Rattle.questions.proofs.ModeLaws.{mode_asked}
 use Rattle.checker.specs.Decide.{decide_checks}
 use Rattle.checker.specs.Explain.{triples_asked, explain_checks, explain_answer, explain_marks, explain_triples}
@@ -133,18 +131,6 @@ module _ (file : List ℕ) (q : Question) (mode : ℕ) (first second : List ℕ)
   many : length (triples_asked file q mode) ≡ count
   many = ap (λ (l : List ℕ). get_or l 0 0) outcome.1
 
-  demand_sound : Sound D
-  demand_sound = table_at_sound file q.demand.table t (asked_demand file q asked)
-
-  supply_sound : Sound S
-  supply_sound = table_at_sound file q.supply.table w (asked_supply file q asked)
-
-  demand_rises : Rises D
-  demand_rises = moves_rise (table_of file q.demand.table).rows
-
-  supply_rises : Rises S
-  supply_rises = moves_rise (table_of file q.supply.table).rows
-
   demand_state : t < D.n
   demand_state = (asked_demand file q asked).state
 
@@ -170,11 +156,11 @@ module _ (file : List ℕ) (q : Question) (mode : ℕ) (first second : List ℕ)
 
   are : AreTriples (mode_of mode) D S t w (triples_asked file q mode)
   are =
-      triples_are D S demand_sound supply_sound demand_rises supply_rises (mode_of mode) t w demand_state supply_state
+      triples_are D S (demand_sound file q asked) (supply_sound file q asked) (demand_rises file q) (supply_rises file q) (mode_of mode) t w demand_state supply_state
 
   explain : Explains (mode_of mode) S w (mark (mode_of mode) D S t w) (triples_asked file q mode)
   explain =
-      triples_explain D S demand_sound supply_sound demand_rises supply_rises (mode_of mode) t w demand_state supply_state
+      triples_explain D S (demand_sound file q asked) (supply_sound file q asked) (demand_rises file q) (supply_rises file q) (mode_of mode) t w demand_state supply_state
       are (mark (mode_of mode) D S t w) refl
 
   have_marks : HasMarks (mode_of mode) D S marked
@@ -190,7 +176,7 @@ module _ (file : List ℕ) (q : Question) (mode : ℕ) (first second : List ℕ)
     many = many;
     are_triples = are;
     by_marks =
-        sym (triples_same D S demand_sound supply_sound demand_rises supply_rises (mode_of mode) t w demand_state supply_state
+        sym (triples_same D S (demand_sound file q asked) (supply_sound file q asked) (demand_rises file q) (supply_rises file q) (mode_of mode) t w demand_state supply_state
         (mark_at S.n marked) have_marks.each)
         ∙ ap (triples_at (mode_of mode) (D.moves t) (S.moves w) (mark_at S.n marked)) (sym own_mark);
     explains = rw own_mark explain;

@@ -7,11 +7,9 @@ use native.Mathlib.Omega.{arith}
 use lib.ListN.{length, get_or}
 use borrow.Author.Tests.{lt-ltb, le-ltb}
 use Rattle.rules.specs.Slices.{overwrite}
-use Rattle.rules.proofs.MachineLaws.{moves_rise}
 use Rattle.tables.specs.declared.Refusal.{Refusal}
 use Rattle.tables.specs.Checks.{Checked, refuse, fault, ◌then◌}
 use Rattle.tables.specs.Answers.{answer, carried_out, slice_after}
-use Rattle.tables.specs.Tables.{table_of}
 use Rattle.tables.proofs.CheckLaws.{then_left, passed}
 use Rattle.graphs.specs.Graph.{graph_text, IsGraph}
 use Rattle.machines.specs.Machine.{machine_in}
@@ -19,7 +17,7 @@ use Rattle.questions.specs.declared.Loaded.{Loaded}
 use Rattle.graphs.proofs.GraphLaws.{is_graph}
 use Rattle.questions.specs.declared.Question.{Question}
 use Rattle.questions.specs.Pairs.{pair_checks, demand_of, supply_of, pair_of, PairLoaded}
-use Rattle.questions.proofs.PairLaws.{asked_demand, asked_supply, table_at_sound}
+use Rattle.questions.proofs.PairLaws.{asked_demand, asked_supply, demand_sound, supply_sound, demand_rises, supply_rises}
 use Rattle.tables.specs.Answers.{counted}
 use Rattle.tables.specs.declared.Reason.TheVariants.{NoRoom}
 use Rattle.std.proofs.Common.{Result, Ok, Err}
@@ -71,9 +69,8 @@ module _ (s : List ℕ) (q : Question) (entry exit : List ℕ) (left : exit ≡ 
       let d = asked_demand s q asked in
       let g = asked_supply s q asked in
       subst₂ (λ (k : ℕ) (l : List ℕ). IsGraph (demand_of s q) (supply_of s q) (pair_of q) k l) (ap (λ (l : List ℕ). get_or l 0 0) outcome.1) (sym written)
-      (is_graph (demand_of s q) (supply_of s q) d.table.few_states g.table.few_states (table_at_sound s q.demand.table q.demand.state d)
-      (table_at_sound s q.supply.table q.supply.state g) (moves_rise (table_of s q.demand.table).rows) (moves_rise (table_of s q.supply.table).rows)
-      (pair_of q) entry)
+      (is_graph (demand_of s q) (supply_of s q) d.table.few_states g.table.few_states (demand_sound s q asked) (supply_sound s q asked)
+      (demand_rises s q) (supply_rises s q) (pair_of q) entry)
 
 -- what Graph ensures, from its answer and the bytes
 pub graph_shown : (s : List ℕ) (q : Question) (entry exit : List ℕ) (r : Result ℕ Refusal)

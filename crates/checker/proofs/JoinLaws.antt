@@ -15,7 +15,8 @@ use Rattle.rules.specs.Slices.{overwrite}
 use Rattle.rules.specs.Machines.{Machine, Sound, IsMove, machine, widen}
 use Rattle.rules.specs.Actions.{tasks, ◌∥◌}
 use Rattle.rules.specs.Join.{join_state, join, Joins, IsJoinRow}
-use Rattle.rules.proofs.MachineLaws.{fin_moves, widen_none}
+use Rattle.rules.proofs.MachineLaws.{fin_moves}
+use Rattle.rules.proofs.WideningLaws.{widen_none}
 use Rattle.rules.proofs.JoinLaws.{join_rises, join_rows_lem, join_from, join_target, join_moves_lem, join_parallel}
 use Rattle.tables.specs.declared.Refusal.{Refusal}
 use Rattle.checker.specs.declared.TableSize.{TableSize}

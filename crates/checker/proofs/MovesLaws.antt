@@ -16,18 +16,17 @@ use Rattle.rules.specs.Actions.{Action, beside}
 use Rattle.rules.specs.declared.Candidate.{Candidate}
 use Rattle.rules.specs.Moves.{pairing, action, survivors, numbers}
 use Rattle.rules.proofs.ListLaws.{mem_get_or, get_or-mem, length-flat_map, flat_map-part}
-use Rattle.rules.proofs.MachineLaws.{moves_rise}
 use Rattle.rules.proofs.MoveLaws.{survivors_iff, rising_survivors}
 use Rattle.rules.proofs.PadsLaws.{beside_survivors}
 use Rattle.tables.specs.declared.Refusal.{Refusal}
 use Rattle.tables.specs.Checks.{Checked, refuse, fault, ◌then◌}
 use Rattle.tables.specs.Answers.{answer, carried_out, slice_after}
-use Rattle.tables.specs.Tables.{table_of}
 use Rattle.tables.proofs.CheckLaws.{passed}
 use Rattle.machines.specs.Machine.{machine_in}
 use Rattle.questions.specs.declared.Loaded.{Loaded}
 use Rattle.questions.specs.declared.Question.{Question}
 use Rattle.questions.specs.Pairs.{pair_checks, demand_of, supply_of, PairLoaded}
+use Rattle.questions.proofs.PairLaws.{demand_rises, supply_rises}
 use Rattle.tables.specs.Answers.{counted}
 use Rattle.tables.specs.declared.Reason.TheVariants.{NoRoom}
 use Rattle.std.proofs.Common.{Result, Ok, Err}
@@ -124,7 +123,7 @@ module _ (file : List ℕ) (q : Question) (entry exit : List ℕ) (left : exit �
   demanded : MovesDemand (demand_of file q) (supply_of file q) q.demand.state q.supply.state count exit
   demanded =
       subst (λ (n : ℕ). MovesDemand (demand_of file q) (supply_of file q) q.demand.state q.supply.state n exit) (ap (λ (l : List ℕ). get_or l 0 0) outcome.1)
-      (moves_demand (demand_of file q) (supply_of file q) (moves_rise (table_of file q.demand.table).rows) (moves_rise (table_of file q.supply.table).rows)
+      (moves_demand (demand_of file q) (supply_of file q) (demand_rises file q) (supply_rises file q)
       q.demand.state q.supply.state entry exit written)
 
 pub moves_shown : (file : List ℕ) (q : Question) (entry exit : List ℕ) (r : Result ℕ Refusal)

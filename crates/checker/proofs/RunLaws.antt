@@ -10,12 +10,10 @@ use Rattle.rules.specs.Slices.{overwrite}
 use Rattle.rules.specs.Machines.{Machine}
 use Rattle.rules.specs.Rounds.{mark, marks}
 use Rattle.rules.specs.Steps.{IsRun, slots, steps}
-use Rattle.rules.proofs.MachineLaws.{moves_rise}
 use Rattle.rules.proofs.StepLaws.{run_is, run_length, run_blocked, length-steps}
 use Rattle.tables.specs.declared.Refusal.{Refusal}
 use Rattle.tables.specs.Checks.{Checked, refuse, fault, ◌then◌}
 use Rattle.tables.specs.Answers.{answer, carried_out, slice_after}
-use Rattle.tables.specs.Tables.{table_of}
 use Rattle.tables.proofs.CheckLaws.{then_left, then_fault, passed}
 use Rattle.machines.specs.Machine.{machine_in}
 use Rattle.questions.specs.declared.Loaded.{Loaded}
@@ -24,7 +22,7 @@ use Rattle.runs.specs.Starts.{RunStarts, mark_from, steps_from}
 use Rattle.questions.specs.declared.Question.{Question}
 use Rattle.questions.specs.Pairs.{pair_checks, demand_of, supply_of, PairLoaded}
 use Rattle.questions.specs.Modes.{mode_of, mode_checks}
-use Rattle.questions.proofs.PairLaws.{asked_demand, asked_supply, table_at_sound, pairs_are}
+use Rattle.questions.proofs.PairLaws.{asked_demand, asked_supply, demand_sound, supply_sound, demand_rises, supply_rises, pairs_are}
 use Rattle.questions.proofs.ModeLaws.{mode_asked}
 use Rattle.tables.specs.Answers.{counted}
 use Rattle.tables.specs.declared.Reason.TheVariants.{NoRoom}
@@ -119,8 +117,7 @@ module _ (file : List ℕ) (q : Question) (mode : ℕ) (first second : List ℕ)
 
   run : IsRun (mode_of mode) D S t w (slots (mode_of mode) D S (mark (mode_of mode) D S t w) t w)
   run =
-      run_is D S (table_at_sound file q.demand.table t (asked_demand file q asked)) (table_at_sound file q.supply.table w (asked_supply file q asked))
-      (moves_rise (table_of file q.demand.table).rows) (moves_rise (table_of file q.supply.table).rows) (mode_of mode) t w (asked_demand file q asked).state (asked_supply file q asked).state
+      run_is D S (demand_sound file q asked) (supply_sound file q asked) (demand_rises file q) (supply_rises file q) (mode_of mode) t w (asked_demand file q asked).state (asked_supply file q asked).state
 
   pub run_demand : RunDemand (mode_of mode) D S t w count marked stepped
   unfolding steps

@@ -1,6 +1,6 @@
--- The second and the third demand, of the calls that are carried out: for the machines D and S of the two tables, the pair (t, s) that is asked
--- about, the values that are returned (the verdict, 1 for yes and 0 for no; the count kept; rounds; the count of moves, of steps or of triples), and
--- what the slices hold at exit. Beside them what document 02 wants shown of Explain.
+-- The second and the third demand, of the calls that are carried out: for the machines D and S of the two tables, S widened by the question's standing
+-- set, which the rival has too, the pair (t, s) that is asked about, the values that are returned (the verdict, 1 for yes and 0 for no; the count
+-- kept; rounds; the count of moves, of steps or of triples), and what the slices hold at exit. Beside them what document 02 wants shown of Explain.
 use Rattle.std.specs.Prelude.{ℕ, suc, ◌*◌, ◌≤◌, ◌<◌, ◌≡◌, Bool, not, ◌↔◌, T, eqb, length, take, drop}
 use mathlib.Core.List.{List, [], ◌∷◌, flat_map, Memᴰ}
 use Rattle.rules.specs.declared.Mode.{Mode}

@@ -1,9 +1,9 @@
 // The calls about a pair of states and about two tables, as documents 01 and 02 list them. Each opens the file, turns back what must be turned back, loads
-// the two tables, and has an engine work out the answer. Nothing is asked of the caller. A file and a question stay two parameters, as the calls list
-// them. Relies on `rules` for the meaning, on `tables` for the file, on `questions` for what turns back a call before its engine runs and for loading the
-// tables of a pair, on `machines` for loading those of a join, and on the engines: `moves` for the surviving moves of a pair, `graphs` for those of all
-// pairs as text, `marks` for the marks of all pairs, `runs` for the run that shows a no, `explanations` for the triples that tell why a pair is kept or
-// struck, `joins` for the rows of a join.
+// the two tables, and has an engine work out the answer. Nothing is asked of the caller. A file and a question stay two parameters, as the calls list them;
+// a question has a standing set too, which the supply grants in every slot. Relies on `rules` for the meaning, on `tables` for the file, on `questions` for
+// what turns back a call before its engine runs and for loading the tables of a pair, on `machines` for loading those of a join, and on the engines: `moves`
+// for the surviving moves of a pair, `graphs` for those of all pairs as text, `marks` for the marks of all pairs, `runs` for the run that shows a no,
+// `explanations` for the triples that tell why a pair is kept or struck, `joins` for the rows of a join.
 #![tactic(auto)]
 
 ghost use Rattle.std.specs.Prelude.{◌≡◌, length};

@@ -38,16 +38,15 @@ asked_some (Ok p) o head file e = let same : p ≡ o = cc in ap (λ (x : Operati
 asked_some (Err u) o head file e = cc
 
 -- the parts of a call are those that the head holds
-pub asked_by : (o : Operation) (head file : List ℕ) {mode room more set : ℕ} {demand supply : Side} → mode ≡ number (field head 1)
+pub asked_by : (o : Operation) (head file : List ℕ) {mode room more standing : ℕ} {demand supply : Side} → mode ≡ number (field head 1)
     → demand ≡ side (field head 2) (field head 3) → supply ≡ side (field head 4) (field head 5) → room ≡ number (field head 6) → more ≡ number (field head 7)
-    → set ≡ low_set (field head 8)
+    → standing ≡ low_set (field head 8)
     → Some (record {
       operation = o;
       mode = mode;
-      question = record { demand = demand; supply = supply };
+      question = record { demand = demand; supply = supply; standing = standing };
       length = room;
       second_length = more;
-      set = set;
       file = file;
     })
     ≡ asked_for (Ok o) head file
@@ -55,9 +54,8 @@ asked_by o head file m d s l k r =
     λ i. Some (record {
       operation = o;
       mode = m i;
-      question = record { demand = d i; supply = s i };
+      question = record { demand = d i; supply = s i; standing = r i };
       length = l i;
       second_length = k i;
-      set = r i;
       file = file;
     })

@@ -24,14 +24,13 @@ side table state = record { table = number table; state = number state }
 abbrev pub field : List ℕ → ℕ → List ℕ
 field head i = take 8 (drop (8 * i) head)
 
--- a call, with the bytes of its file
+-- a call, with the bytes of its file; the set of a head is the question's standing set, and of a join the common one
 pub record Asked : Type 0 where
   pub operation : Operation
   pub mode : ℕ
   pub question : Question
   pub length : ℕ
   pub second_length : ℕ
-  pub set : ℕ
   pub file : List ℕ
 
 -- a head for an operation, and a file
@@ -42,10 +41,9 @@ asked_for (Ok operation) head file =
     (record {
       operation = operation;
       mode = number (field head 1);
-      question = record { demand = side (field head 2) (field head 3); supply = side (field head 4) (field head 5) };
+      question = record { demand = side (field head 2) (field head 3); supply = side (field head 4) (field head 5); standing = low_set (field head 8) };
       length = number (field head 6);
       second_length = number (field head 7);
-      set = low_set (field head 8);
       file = file;
     })
 
@@ -67,6 +65,5 @@ told (Some c) =
       question = c.question;
       length = c.length;
       second_length = c.second_length;
-      set = c.set;
       file = c.file.now;
     })

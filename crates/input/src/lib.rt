@@ -13,8 +13,8 @@ use questions::{Question, Side};
 // The bytes of a head.
 const HEAD: usize = 72;
 
-// A call that is asked for, with what it takes: the mode's number, which may be any, tables and states, the lengths of the lent slices, a set of
-// resources, and the file.
+// A call that is asked for, with what it takes: the mode's number, which may be any, a question, the lengths of the lent slices, and the file. A join takes
+// the question's two tables, and its set as the common one.
 #[derive(Clone, Copy)]
 pub struct Call<'a> {
     pub operation: Operation,
@@ -22,7 +22,6 @@ pub struct Call<'a> {
     pub question: Question,
     pub length: usize,
     pub second_length: usize,
-    pub set: u16,
     pub file: &'a [u8],
 }
 
@@ -86,10 +85,10 @@ impl<'a> Call<'a> {
             question: Question {
                 demand: side(table, state),
                 supply: side(second_table, second_state),
+                standing: low_set(set),
             },
             length: number(length),
             second_length: number(second_length),
-            set: low_set(set),
             file,
         })
     }

@@ -1,12 +1,14 @@
--- Laws of questions about a pair that nothing turns back: the two tables, and their machines, loaded. Relies on what Open guarantees.
+-- Laws of questions about a pair that nothing turns back: the two tables, and their machines, of which the supply is widened. Relies on what Open
+-- guarantees and on the laws of standing sets.
 use Prim.Native.Nat.{ℕ, ◌+◌, ◌*◌, ◌≤◌, ◌<◌}
-use mathlib.Core.Path.{◌≡◌, ap₂, ◌∙◌}
+use mathlib.Core.Path.{◌≡◌, ap, ap₂, ◌∙◌}
 use mathlib.Core.List.{List}
 use native.Mathlib.Omega.{arith}
 use lib.ListN.{length}
 use borrow.Author.Tests.{leb-false}
-use Rattle.rules.specs.Machines.{Machine, Sound, widen}
-use Rattle.rules.proofs.MachineLaws.{widen_none}
+use Rattle.rules.specs.Machines.{Machine, Sound, Rises, widen}
+use Rattle.rules.proofs.MachineLaws.{moves_rise}
+use Rattle.rules.proofs.WideningLaws.{widen_sound, widen_rises, widen_none}
 use Rattle.tables.specs.File.{tables_of, entry_of, body_length, body_of}
 use Rattle.tables.specs.Open.{file_fault}
 use Rattle.tables.specs.Accepted.{TableBody, Accepted}
@@ -71,6 +73,25 @@ module _ (s : List ℕ) (q : Question) (a : pair_checks s q ≡ Ok tt) where
       table_at s q.supply.table q.supply.state (file_passed s _ _ tables_named) (second_named s _ _ tables_named)
       (leb-false _ _ (fault_passed _ _ _ (then_right _ _ (then_right _ _ a))))
 
+  -- ---- the two machines
+
+  pub demand_sound : Sound (demand_of s q)
+  demand_sound = table_at_sound s q.demand.table q.demand.state asked_demand
+
+  pub supply_sound : Sound (supply_of s q)
+  supply_sound = widen_sound q.standing (machine_of s q.supply.table) (table_at_sound s q.supply.table q.supply.state asked_supply)
+
+module _ (s : List ℕ) (q : Question) where
+  pub demand_rises : Rises (demand_of s q)
+  demand_rises = moves_rise (table_of s q.demand.table).rows
+
+  pub supply_rises : Rises (supply_of s q)
+  supply_rises = widen_rises q.standing (machine_of s q.supply.table) (moves_rise (table_of s q.supply.table).rows)
+
+  -- with the empty set the supply is the table's, as in document 01
+  pub plain_supply : q.standing ≡ 0 → supply_of s q ≡ machine_of s q.supply.table
+  plain_supply e = ap (λ (x : ℕ). widen x (machine_of s q.supply.table)) e ∙ widen_none (machine_of s q.supply.table)
+
 -- ---- its machine, loaded
 
 module _ (s : List ℕ) (i q : ℕ) (t : TableAt s i q) where
@@ -80,9 +101,10 @@ module _ (s : List ℕ) (i q : ℕ) (t : TableAt s i q) where
   pub table_loads : HasTable s i
   table_loads = record { table = t.table; within = t.within }
 
--- with no standing set it is the table's
-pub loaded_plain : (s : List ℕ) (i : ℕ) (m : Memory) → machine_in m ≡ widen 0 (machine_of s i) → machine_in m ≡ machine_of s i
-loaded_plain s i m e = e ∙ widen_none (machine_of s i)
+-- widened by what it was loaded with
+pub loaded_with : (s : List ℕ) (i given standing : ℕ) (m : Memory) → machine_in m ≡ widen given (machine_of s i) → given ≡ standing
+    → machine_in m ≡ widen standing (machine_of s i)
+loaded_with s i given standing m e same = e ∙ ap (λ (x : ℕ). widen x (machine_of s i)) same
 
 -- as many pairs as the machines have
 module _ {s : List ℕ} {q : Question} {l : Loaded} (x : PairLoaded s q l) {pairs : ℕ} (e : pairs ≡ (machine_in l.demand).n * (machine_in l.supply).n) where

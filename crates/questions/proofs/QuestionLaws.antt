@@ -9,7 +9,7 @@ use Rattle.tables.specs.declared.Refusal.{Refusal}
 use Rattle.tables.specs.Checks.{Checked, refuse, fault, ◌then◌}
 use Rattle.tables.specs.Answers.{counted}
 use Rattle.tables.specs.File.{tables_of, entry_of}
-use Rattle.tables.specs.Tables.{table_of}
+use Rattle.tables.specs.Tables.{table_of, machine_of}
 use Rattle.tables.specs.Open.{file_fault, open_of}
 use Rattle.tables.proofs.CheckLaws.{fault_passed, passed_fault, then_left, then_right, then_both}
 use Rattle.tables.proofs.AcceptedLaws.{passed_accepted, tables_passed, refused_fault}
@@ -18,8 +18,9 @@ use Rattle.std.proofs.Common.{Result, Ok, Err}
 use Rattle.questions.specs.declared.Side.{Side}
 use Rattle.questions.specs.declared.Question.{Question}
 use Rattle.questions.specs.Named.{named_checks}
-use Rattle.questions.specs.Pairs.{pair_checks}
+use Rattle.questions.specs.Pairs.{pair_checks, supply_of}
 use Rattle.questions.specs.Questions.{first_of, first_demand, first_supply, start_of, start_side, question_of, program_checks, asked_after, asked_of}
+use Rattle.questions.proofs.PairLaws.{plain_supply}
 use Rattle.questions.proofs.TableLaws.{first_kind, start_below}
 
 -- ---- by what opening finds
@@ -47,10 +48,10 @@ module _ (s : List ℕ) (o : Result ℕ Refusal) (e : counted o ≡ open_of s) w
         unfolding program_checks ◌then◌ fault
         program_passed h = rw (file_passed.0, file_passed.1, sym demand, sym supply, lt-leb k d l, lt-leb k u h) refl
 
-        question_is : {x y : Side} → x ≡ start_side s d → y ≡ start_side s u → record { demand = x; supply = y } ≡ question_of s
-        question_is f g = rw (file_passed.1, sym demand, sym supply) (λ i. record { demand = f i; supply = g i })
+        question_is : {x y : Side} → x ≡ start_side s d → y ≡ start_side s u → record { demand = x; supply = y; standing = 0 } ≡ question_of s
+        question_is f g = rw (file_passed.1, sym demand, sym supply) (λ i. record { demand = f i; supply = g i; standing = 0 })
 
-        pub both_there : u < k → {x y : Side} → x ≡ start_side s d → y ≡ start_side s u → Ok (record { demand = x; supply = y }) ≡ asked_of s
+        pub both_there : u < k → {x y : Side} → x ≡ start_side s d → y ≡ start_side s u → Ok (record { demand = x; supply = y; standing = 0 }) ≡ asked_of s
         unfolding asked_of
         both_there h f g = rw (program_passed h) (ap Ok (question_is f g))
 
@@ -107,3 +108,7 @@ module _ (s : List ℕ) where
   -- no check of a call about a question that is asked finds a fault
   pub asked_passes : (q : Question) → asked_of s ≡ Ok q → pair_checks s q ≡ Ok tt
   asked_passes q e = let (passed, same) = asked_question q e in rw same at (question_asked s passed)
+
+  -- and its supply is the table's, since nothing stands
+  pub asked_plain : (q : Question) → asked_of s ≡ Ok q → supply_of s q ≡ machine_of s q.supply.table
+  asked_plain q e = plain_supply s q (sym (ap (λ (x : Question). x.standing) (asked_question q e).1))

@@ -1,8 +1,9 @@
--- Questions about a pair of states of two tables. Document 01, 'Operations and what they turn back'.
+-- Questions about a pair of states of two tables. Document 01, 'Operations and what they turn back', and document 02, L5, by which a question has a
+-- standing set too; with the empty set it is document 01's.
 use Rattle.std.specs.Prelude.{ℕ, ◌≡◌, List, leb}
 use Rattle.rules.specs.declared.Pair.{Pair}
 use Rattle.rules.specs.Rows.{pair}
-use Rattle.rules.specs.Machines.{Machine}
+use Rattle.rules.specs.Machines.{Machine, widen}
 use Rattle.tables.specs.Checks.{Checked, fault, ◌then◌}
 use Rattle.tables.specs.Tables.{table_of, machine_of}
 use Rattle.tables.specs.declared.Reason.TheVariants.{NoState}
@@ -22,8 +23,9 @@ pair_checks s q =
 abbrev pub demand_of : List ℕ → Question → Machine
 demand_of s q = machine_of s q.demand.table
 
+-- "Both definitions, the rounds and the pruning now read the widened grant. One set holds for a whole call, and the rival has it too."
 abbrev pub supply_of : List ℕ → Question → Machine
-supply_of s q = machine_of s q.supply.table
+supply_of s q = widen q.standing (machine_of s q.supply.table)
 
 -- the pair that is asked about
 abbrev pub pair_of : Question → Pair

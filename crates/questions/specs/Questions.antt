@@ -36,9 +36,9 @@ start_of n = cond (eqb n 1) 0 1
 abbrev pub start_side : List ℕ → ℕ → Side
 start_side s table = record { table = table; state = start_of (table_of s table).n }
 
--- what is asked: the two tables, each from its start
+-- what is asked: the two tables, each from its start; 02, L5: "The program and 01's worked cases use the empty set."
 abbrev pub question_of : List ℕ → Question
-question_of s = record { demand = start_side s (first_demand s); supply = start_side s (first_supply s) }
+question_of s = record { demand = start_side s (first_demand s); supply = start_side s (first_supply s); standing = 0 }
 
 -- "a missing kind is 12 at 0"
 unfoldable pub program_checks : List ℕ → Checked

@@ -28,11 +28,13 @@ pub struct Side {
     pub state: usize,
 }
 
-// What a call asks about: a state of a demand table beside a state of a supply table.
+// What a call asks about: a state of a demand table beside a state of a supply table, with the standing set, whose resources the supply grants in every
+// slot. One set holds for a whole call, so it stands in the question.
 #[derive(Clone, Copy)]
 pub struct Question {
     pub demand: Side,
     pub supply: Side,
+    pub standing: u16,
 }
 
 // What turns back a question about a pair.
@@ -78,14 +80,14 @@ impl Loaded {
     }
 }
 
-// Loads the two tables that a question names.
+// Loads the two tables that a question names. The standing set comes in here, on the supply side alone.
 pub fn load_pair(file: &[u8], question: Question) -> Loaded
     requires { pair_checks file.now question ≡ Ok tt }
     ensures { PairLoaded file.now question result }
 {
     Loaded {
         demand: Machine::load(file, question.demand.table, 0),
-        supply: Machine::load(file, question.supply.table, 0),
+        supply: Machine::load(file, question.supply.table, question.standing),
         start: Pair {
             demand: question.demand.state as u8,
             supply: question.supply.state as u8,

@@ -1,4 +1,4 @@
-// What a program asks about a file: its first demand table beside its first supply table, each from its start.
+// What a program asks about a file: its first demand table beside its first supply table, each from its start, with no standing set.
 ghost use Rattle.std.specs.Prelude.{◌≡◌};
 ghost use Rattle.questions.specs.Questions.{first_found, start_side, asked_of};
 
@@ -38,5 +38,6 @@ pub fn ask(file: &[u8]) -> Result<Question, Refusal>
     Ok(Question {
         demand: start_side(file, demand),
         supply: start_side(file, supply),
+        standing: 0,
     })
 }

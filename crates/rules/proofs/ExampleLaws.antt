@@ -17,8 +17,8 @@ use Rattle.rules.specs.Rounds.{has_response, slot_holds, pair_holds, is_pair, ke
 use Rattle.rules.specs.Steps.{follows, struck_by, lacks_response, step_to, last_slot, slots, steps}
 use Rattle.rules.specs.Explanations.{responses_to, last_triple, triples, triple_entries}
 use Rattle.rules.specs.Join.{insert_row, insert_rows, join_rows, join}
-use Rattle.rules.specs.Examples.{demand_e, supply_e, fin_only, demand_fifth, demand_sixth, then_fin, once, at_most_once, repeated, two_slots, ends_or_repeats, one_or_two, stuck_supply, nothing_or_one, six_or_seven, repeats_or_ends, uneven_demand, uneven_supply, examples}
-use Rattle.rules.specs.Examples.{Example, Means, moves_are, marks_are, counts_are, says_yes, says_no, run_is, triples_are, join_is, join_count, is_stuck}
+use Rattle.rules.specs.Examples.{demand_e, supply_e, fin_only, demand_fifth, demand_sixth, then_fin, once, at_most_once, repeated, two_slots, ends_or_repeats, one_or_two, stuck_supply, nothing_or_one, six_or_seven, repeats_or_ends, uneven_demand, uneven_supply, other_last, first_or_last, supply_with, examples}
+use Rattle.rules.specs.Examples.{Example, Means, MeansWith, with_standing, moves_are, marks_are, counts_are, says_yes, says_no, run_is, triples_are, join_is, join_count, is_stuck}
 use Rattle.rules.proofs.Booleans.{eq-T, and_l, and_r}
 use Rattle.rules.proofs.ListLaws.{all-each}
 
@@ -66,17 +66,18 @@ same_numbers = same_list eqb eqb→eq
 
 -- ---- an example as a test
 
-test : Example → Bool
-test (moves_are D S t s l) = same_numbers (flat_map numbers (survivors (machine D) (machine S) t s)) l
-test (marks_are mode D S l) = same_numbers (marks mode (machine D) (machine S)) l
-test (counts_are mode D S l) = same_numbers (list_below (length l) (running_count mode (machine D) (machine S))) l
-test (says_yes mode D S t s) = ltb t D.n && (ltb s S.n && eqb (mark mode (machine D) (machine S) t s) 0)
-test (says_no mode D S t s) = ltb t D.n && (ltb s S.n && not (eqb (mark mode (machine D) (machine S) t s) 0))
-test (run_is mode D S t s l) = same_numbers (steps mode (machine D) (machine S) t s) l
-test (triples_are mode D S t s l) = same_numbers (triple_entries mode (machine D) (machine S) t s) l
-test (join_is common A B J) = same_table (join common (machine A) (machine B)) J
-test (join_count common A B m) = eqb (length (join common (machine A) (machine B)).rows) m
-test (is_stuck A q) = ltb q A.n && is_empty (state_moves A.rows q)
+test : ℕ → Example → Bool
+test standing (moves_are D S t s l) = same_numbers (flat_map numbers (survivors (machine D) (supply_with standing S) t s)) l
+test standing (marks_are mode D S l) = same_numbers (marks mode (machine D) (supply_with standing S)) l
+test standing (counts_are mode D S l) = same_numbers (list_below (length l) (running_count mode (machine D) (supply_with standing S))) l
+test standing (says_yes mode D S t s) = ltb t D.n && (ltb s S.n && eqb (mark mode (machine D) (supply_with standing S) t s) 0)
+test standing (says_no mode D S t s) = ltb t D.n && (ltb s S.n && not (eqb (mark mode (machine D) (supply_with standing S) t s) 0))
+test standing (run_is mode D S t s l) = same_numbers (steps mode (machine D) (supply_with standing S) t s) l
+test standing (triples_are mode D S t s l) = same_numbers (triple_entries mode (machine D) (supply_with standing S) t s) l
+test standing (join_is common A B J) = same_table (join common (machine A) (machine B)) J
+test standing (join_count common A B m) = eqb (length (join common (machine A) (machine B)).rows) m
+test standing (is_stuck A q) = ltb q A.n && is_empty (state_moves A.rows q)
+test standing (with_standing more e) = test (union standing more) e
 
 empty_list : {A : Type 0} (l : List A) → T (is_empty l) → l ≡ []
 empty_list [] t = refl
@@ -88,27 +89,28 @@ states t s n m b f h =
     let rest : T (ltb s m && b) = and_r (ltb t n) (ltb s m && b) h in
     (ltb→lt t n (and_l (ltb t n) (ltb s m && b) h), ltb→lt s m (and_l (ltb s m) b rest), f (and_r (ltb s m) b rest))
 
-tested : (e : Example) → T (test e) → Means e
-unfolding test Means same_numbers
-tested (moves_are D S t s l) h = equal_list eqb eqb→eq (flat_map numbers (survivors (machine D) (machine S) t s)) l h
-tested (marks_are mode D S l) h = equal_list eqb eqb→eq (marks mode (machine D) (machine S)) l h
-tested (counts_are mode D S l) h = equal_list eqb eqb→eq (list_below (length l) (running_count mode (machine D) (machine S))) l h
-tested (says_yes mode D S t s) h = states t s D.n S.n (eqb (mark mode (machine D) (machine S) t s) 0) (eqb→eq (mark mode (machine D) (machine S) t s) 0) h
-tested (says_no mode D S t s) h =
-    states t s D.n S.n (not (eqb (mark mode (machine D) (machine S) t s) 0))
-    (λ h e. T_not (eqb (mark mode (machine D) (machine S) t s) 0) h (eq-T (mark mode (machine D) (machine S) t s) 0 e)) h
-tested (run_is mode D S t s l) h = equal_list eqb eqb→eq (steps mode (machine D) (machine S) t s) l h
-tested (triples_are mode D S t s l) h = equal_list eqb eqb→eq (triple_entries mode (machine D) (machine S) t s) l h
-tested (join_is common A B J) h = equal_table (join common (machine A) (machine B)) J h
-tested (join_count common A B m) h = eqb→eq (length (join common (machine A) (machine B)).rows) m h
-tested (is_stuck A q) h =
+tested : (standing : ℕ) (e : Example) → T (test standing e) → MeansWith standing e
+unfolding test MeansWith same_numbers
+tested standing (moves_are D S t s l) h = equal_list eqb eqb→eq (flat_map numbers (survivors (machine D) (supply_with standing S) t s)) l h
+tested standing (marks_are mode D S l) h = equal_list eqb eqb→eq (marks mode (machine D) (supply_with standing S)) l h
+tested standing (counts_are mode D S l) h = equal_list eqb eqb→eq (list_below (length l) (running_count mode (machine D) (supply_with standing S))) l h
+tested standing (says_yes mode D S t s) h = states t s D.n S.n (eqb (mark mode (machine D) (supply_with standing S) t s) 0) (eqb→eq (mark mode (machine D) (supply_with standing S) t s) 0) h
+tested standing (says_no mode D S t s) h =
+    states t s D.n S.n (not (eqb (mark mode (machine D) (supply_with standing S) t s) 0))
+    (λ h e. T_not (eqb (mark mode (machine D) (supply_with standing S) t s) 0) h (eq-T (mark mode (machine D) (supply_with standing S) t s) 0 e)) h
+tested standing (run_is mode D S t s l) h = equal_list eqb eqb→eq (steps mode (machine D) (supply_with standing S) t s) l h
+tested standing (triples_are mode D S t s l) h = equal_list eqb eqb→eq (triple_entries mode (machine D) (supply_with standing S) t s) l h
+tested standing (join_is common A B J) h = equal_table (join common (machine A) (machine B)) J h
+tested standing (join_count common A B m) h = eqb→eq (length (join common (machine A) (machine B)).rows) m h
+tested standing (is_stuck A q) h =
     let empty : Bool = is_empty (state_moves A.rows q) in
     (ltb→lt q A.n (and_l (ltb q A.n) empty h), empty_list (state_moves A.rows q) (and_r (ltb q A.n) empty h))
+tested standing (with_standing more e) h = tested (union standing more) e h
 
-passed : T (all test examples)
-unfolding examples test same_numbers same_list same_table same_row flat_map demand_e supply_e fin_only demand_fifth demand_sixth then_fin once at_most_once repeated two_slots ends_or_repeats one_or_two stuck_supply nothing_or_one six_or_seven repeats_or_ends uneven_demand uneven_supply intersection union difference inside larger maximal rises row_moves state_moves left_of consumed_of unmet_of candidates prunes survivors_of numbers has_response slot_holds pair_holds is_pair keeps losing mark_by mark marks count_pairs running_count follows struck_by lacks_response step_to last_slot slots steps responses_to last_triple triples triple_entries shares_outside insert_row insert_rows join_rows join
+passed : T (all (test 0) examples)
+unfolding examples test same_numbers same_list same_table same_row flat_map demand_e supply_e fin_only demand_fifth demand_sixth then_fin once at_most_once repeated two_slots ends_or_repeats one_or_two stuck_supply nothing_or_one six_or_seven repeats_or_ends uneven_demand uneven_supply other_last first_or_last intersection union difference inside larger maximal rises row_moves state_moves left_of consumed_of unmet_of candidates prunes survivors_of numbers has_response slot_holds pair_holds is_pair keeps losing mark_by mark marks count_pairs running_count follows struck_by lacks_response step_to last_slot slots steps responses_to last_triple triples triple_entries shares_outside insert_row insert_rows join_rows join
 passed = tt
 
 -- every example of the table holds
 pub examples_hold : (e : Example) → Memᴰ e examples → Means e
-examples_hold e m = tested e (all-each test passed m)
+examples_hold e m = tested 0 e (all-each (test 0) passed m)

@@ -8,6 +8,7 @@ pub mod SetLaws
 pub mod MaximalLaws
 pub mod RowLaws
 pub mod MachineLaws
+pub mod WideningLaws
 pub mod MoveLaws
 pub mod PadsLaws
 pub mod RelationLaws
