@@ -52,18 +52,19 @@ module _ (s : List ℕ) (q : Question) (mode : ℕ) (a : mode_checks s q mode �
     marks_written = left ∙ rw (same, x.demand_is, x.supply_is) refl
 
     -- the mark that is read
-    start_mark : {v : ℕ} → v ≡ mark_at (machine_in l.supply).n exit l.start.demand l.start.supply
+    start_mark : {v n : ℕ} → v ≡ mark_at n exit l.start.demand l.start.supply → n ≡ (machine_in l.supply).n
         → v ≡ mark (mode_of mode) (demand_of s q) (supply_of s q) q.demand.state q.supply.state
-    start_mark f =
-        f ∙ ap (λ (z : Pair). mark_at (machine_in l.supply).n exit z.demand z.supply) x.start_is
+    start_mark f e =
+        f ∙ ap (λ (k : ℕ). mark_at k exit l.start.demand l.start.supply) e
+        ∙ ap (λ (z : Pair). mark_at (machine_in l.supply).n exit z.demand z.supply) x.start_is
         ∙ ap₂ (λ (n : ℕ) (l : List ℕ). mark_at n l q.demand.state q.supply.state) (ap (λ (M : Machine). M.n) x.supply_is) marks_written
         ∙ (has-marks (mode_of mode) (demand_of s q) (supply_of s q) entry refl).each q.demand.state q.supply.state (asked_demand s q asked).state (asked_supply s q asked).state
 
-    pub decide_written : {v : ℕ} → (demand_of s q).n * (supply_of s q).n ≤ length entry → v ≡ mark_at (machine_in l.supply).n exit l.start.demand l.start.supply
-        → (sum : Summary) → sum ≡ summary_of m (machine_in l.demand) (machine_in l.supply)
+    pub decide_written : {v n : ℕ} → (demand_of s q).n * (supply_of s q).n ≤ length entry → v ≡ mark_at n exit l.start.demand l.start.supply
+        → n ≡ (machine_in l.supply).n → (sum : Summary) → sum ≡ summary_of m (machine_in l.demand) (machine_in l.supply)
         → (carried_out (one (eqb v 0) ∷ sum.kept ∷ sum.rounds ∷ []) ≡ decide_answer s q mode (length entry)) × (exit ≡ decide_slice s q mode entry)
     unfolding decide_answer decide_slice answer slice_after
-    decide_written room f sum told = (
-      rw (none_fault (length entry) room, start_mark f, told, same, x.demand_is, x.supply_is) refl,
+    decide_written room f e sum told = (
+      rw (none_fault (length entry) room, start_mark f e, told, same, x.demand_is, x.supply_is) refl,
       rw (none_fault (length entry) room) marks_written,
     )

@@ -43,10 +43,10 @@ module _ (s : List ℕ) (q : Question) (a : pair_checks s q ≡ Ok tt) (text : L
       rw (a, le-ltb room (length (graph_text_at s q)) enough) refl
 
   -- carried out: its length is the answer, and the text stands before the rest of the bytes
-  pub graph_written : (entry exit : List ℕ) → count ≤ length entry → exit ≡ overwrite text entry
-      → (carried_out (count ∷ []) ≡ graph_answer s q (length entry)) × (exit ≡ graph_slice s q entry)
+  pub graph_written : (entry exit : List ℕ) → count ≤ length entry → exit ≡ overwrite text entry → {returned : ℕ} → returned ≡ count
+      → (carried_out (returned ∷ []) ≡ graph_answer s q (length entry)) × (exit ≡ graph_slice s q entry)
   unfolding graph_answer graph_slice answer slice_after
-  graph_written entry exit l w = (rw (none_fault (length entry) l, long, same) refl, rw (none_fault (length entry) l, ← same) w)
+  graph_written entry exit l w e = (rw (none_fault (length entry) l, e, long, same) refl, rw (none_fault (length entry) l, ← same) w)
 
 -- ---- "The move rule now covers this text."
 

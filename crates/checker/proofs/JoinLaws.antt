@@ -36,6 +36,10 @@ use Rattle.questions.proofs.SizeLaws.{first_at, second_at, states_few}
 use Rattle.checker.specs.Calls.{joined}
 use Rattle.checker.specs.Join.{join_of, join_checks, join_answer, join_slice, written_table, IsJoin, JoinDemands}
 
+-- n and m, as they are returned
+pub size_told : {x y n m : ℕ} → x ≡ n → y ≡ m → carried_out (x ∷ y ∷ []) ≡ carried_out (n ∷ m ∷ [])
+size_told = ap₂ (λ (n m : ℕ). carried_out (n ∷ m ∷ []))
+
 -- the answer that writing gives to a joined table of n states
 abbrev answer_of : ℕ → Result ℕ Refusal → Answer
 answer_of n (Ok m) = carried_out (n ∷ m ∷ [])

@@ -48,10 +48,10 @@ module _ (s : List ℕ) (q : Question) (a : pair_checks s q ≡ Ok tt) (cs : Lis
       rw (a, le-ltb room (5 * length (survivors_at s q)) long) refl
 
   -- carried out: the count is the answer, and the moves stand before the rest of the slice
-  pub moves_written : (entry exit : List ℕ) → count ≤ length entry / 5 → exit ≡ overwrite (flat_map numbers cs) entry
-      → (carried_out (count ∷ []) ≡ moves_answer s q (length entry)) × (exit ≡ moves_slice s q entry)
+  pub moves_written : (entry exit : List ℕ) → count ≤ length entry / 5 → exit ≡ overwrite (flat_map numbers cs) entry → {returned : ℕ} → returned ≡ count
+      → (carried_out (returned ∷ []) ≡ moves_answer s q (length entry)) × (exit ≡ moves_slice s q entry)
   unfolding moves_answer moves_slice answer slice_after
-  moves_written entry exit l w = (rw (none_fault (length entry) l, counted, same) refl, rw (none_fault (length entry) l, ← same) w)
+  moves_written entry exit l w e = (rw (none_fault (length entry) l, e, counted, same) refl, rw (none_fault (length entry) l, ← same) w)
 
 -- the survivors of the pair, by the two machines
 pub survivors_found : (s : List ℕ) (q : Question) {l : Loaded} → PairLoaded s q l

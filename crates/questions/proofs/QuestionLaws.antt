@@ -1,6 +1,6 @@
 -- What is asked about a file, by what opening and the search for the two tables find, and that it is about a pair of states. Relies on the laws of `tables`.
 use Prim.Native.Nat.{ℕ, ◌≤◌, ◌<◌}
-use mathlib.Core.Path.{◌≡◌, refl, sym, ap}
+use mathlib.Core.Path.{◌≡◌, refl, sym, ap, ◌∙◌}
 use mathlib.Core.Bool.{false, not}
 use mathlib.Core.List.{List}
 use lib.Dec.{eqb}
@@ -48,12 +48,15 @@ module _ (s : List ℕ) (o : Result ℕ Refusal) (e : counted o ≡ open_of s) w
         unfolding program_checks ◌then◌ fault
         program_passed h = rw (file_passed.0, file_passed.1, sym demand, sym supply, lt-leb k d l, lt-leb k u h) refl
 
-        question_is : {x y : Side} → x ≡ start_side s d → y ≡ start_side s u → record { demand = x; supply = y; standing = 0 } ≡ question_of s
-        question_is f g = rw (file_passed.1, sym demand, sym supply) (λ i. record { demand = f i; supply = g i; standing = 0 })
+        question_is : {x y : Side} {standing : ℕ} → x ≡ start_side s d → y ≡ start_side s u → standing ≡ 0
+            → record { demand = x; supply = y; standing = standing } ≡ question_of s
+        question_is f g none = rw (file_passed.1, sym demand, sym supply) (λ i. record { demand = f i; supply = g i; standing = none i })
 
-        pub both_there : u < k → {x y : Side} → x ≡ start_side s d → y ≡ start_side s u → Ok (record { demand = x; supply = y; standing = 0 }) ≡ asked_of s
+        -- both tables are there, and the question is of what was found
+        pub both_there : u < k → {x y : Side} {i j standing : ℕ} → x ≡ start_side s i → i ≡ d → y ≡ start_side s j → j ≡ u → standing ≡ 0
+            → Ok (record { demand = x; supply = y; standing = standing }) ≡ asked_of s
         unfolding asked_of
-        both_there h f g = rw (program_passed h) (ap Ok (question_is f g))
+        both_there h f is g are none = rw (program_passed h) (ap Ok (question_is (f ∙ ap (start_side s) is) (g ∙ ap (start_side s) are) none))
 
 -- ---- the question is about a pair of states
 

@@ -1,5 +1,6 @@
 -- `checker::decide` meets its contract. What turns back the pair or the mode is handed on; then the engine writes the marks, and the start pair's is read.
 use mathlib.Core.Path.{sym, ◌∙◌}
+use native.Mathlib.Omega.{arith}
 use Rattle.std.proofs.Common.{Ok, Err}
 use Rattle.tables.specs.Checks.{refuse}
 use Rattle.tables.specs.declared.Reason.TheVariants.{NoRoom}
@@ -24,7 +25,7 @@ unfolding decide_answer decide_slice
 returns-then-marks-pairs c =
     let pairs = pairs_are c.load_pair-loaded.ensures (rw (c.sides-sides.ensures.demand, c.sides-sides.ensures.supply) at c.pairs.ensures) in
     rw c.new.ensures (as_answer_slice_demands (demands _ _ _ _ _ (Err (refuse NoRoom 0))
-    (turned_back_lem _ (refuse NoRoom 0) _ _ _ (short_fault _ _ _ (sym c.check_decision.ensures ∙ c.in_ok-check_decision.was) _ (rw (← pairs) c.if-marks-pairs.true)))))
+    (turned_back_lem _ (refuse NoRoom 0) _ _ _ (short_fault _ _ _ (sym c.check_decision.ensures ∙ c.in_ok-check_decision.was) _ (let short = c.if-marks-pairs.true in omega (arith, pairs))))))
 
 pub returns : goal.returns
 returns c =
@@ -32,4 +33,4 @@ returns c =
     let slice = rw (c.sides-sides.ensures.demand, c.sides-sides.ensures.supply) at c.write-summary.ensures.slice in
     let answer = rw (c.sides-sides.ensures.demand, c.sides-sides.ensures.supply) at c.write-summary.ensures.answer in
     as_answer_slice_demands (demands _ _ _ _ _ (Ok _)
-    (decide_written _ _ _ (sym c.check_decision.ensures ∙ c.in_ok-check_decision.was) c.load_pair-loaded.ensures _ c.mode_of.ensures _ _ slice (rw (← pairs) c.if-marks-pairs.false) c.mark_of.ensures _ answer))
+    (decide_written _ _ _ (sym c.check_decision.ensures ∙ c.in_ok-check_decision.was) c.load_pair-loaded.ensures _ c.mode_of.ensures _ _ slice (let fits = c.if-marks-pairs.false in omega (arith, pairs)) c.mark_of.ensures (cc) _ answer))

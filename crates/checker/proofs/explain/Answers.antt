@@ -30,7 +30,7 @@ unfolding explain_answer explain_marks explain_triples
 returns-then-marks-pairs c =
     let pairs = pairs_are c.load_pair-loaded.ensures (rw (c.sides-sides.ensures.demand, c.sides-sides.ensures.supply) at c.pairs-pairs.ensures) in
     rw c.new.ensures (as_answer_marks_triples_demands (explain_shown _ _ _ _ _ (Err (refuse NoRoom 0))
-    (turned_back_both _ (refuse NoRoom 0) _ _ _ _ _ (marks_fault _ _ _ _ _ _ (short_fault _ _ _ (sym c.check_decision.ensures ∙ c.in_ok-check_decision.was) _ (rw (← pairs) c.if-marks-pairs.true))))))
+    (turned_back_both _ (refuse NoRoom 0) _ _ _ _ _ (marks_fault _ _ _ _ _ _ (short_fault _ _ _ (sym c.check_decision.ensures ∙ c.in_ok-check_decision.was) _ (let short = c.if-marks-pairs.true in omega (arith, pairs)))))))
 
 pub write-requires : goal.write-requires
 write-requires c = few_pairs c.sides-sides.result.demand.now c.sides-sides.result.supply.now
@@ -48,7 +48,8 @@ returns-then-triples-entries c =
     let count = rw (c.sides-sides.ensures.demand, c.sides-sides.ensures.supply) at c.write-entries.ensures.count in
     rw c.new-then-triples-entries.ensures (as_answer_marks_triples_demands (explain_shown _ _ _ _ _ (Err (refuse NoRoom 0))
     (turned_back_both _ (refuse NoRoom 0) _ _ _ _ _
-    (triples_fault _ _ _ (sym c.check_decision.ensures ∙ c.in_ok-check_decision.was) c.load_pair-loaded.ensures _ c.mode_of-mode.ensures count _ _ (rw (← pairs) c.if-marks-pairs.false) (let short = c.if-triples-entries.true in omega arith)))))
+    (triples_fault _ _ _ (sym c.check_decision.ensures ∙ c.in_ok-check_decision.was) c.load_pair-loaded.ensures _ c.mode_of-mode.ensures count _ _
+    (let fits = c.if-marks-pairs.false in omega (arith, pairs)) (let short = c.if-triples-entries.true in omega arith)))))
 
 pub slice_bounds-made-end : goal.slice_bounds-made-end
 slice_bounds-made-end c = made_long _ _ _ _ c.write.ensures.slice c.pairs-pairs.ensures
@@ -77,5 +78,6 @@ returns c =
     let triples = rw (c.sides-sides.ensures.demand, c.sides-sides.ensures.supply) at c.write-2.ensures.slice in
     let three = three_each _ _ _ (sym c.check_decision.ensures ∙ c.in_ok-check_decision.was) c.load_pair-loaded.ensures _ c.mode_of-mode.ensures count in
     as_answer_marks_triples_demands (explain_shown _ _ _ _ _ (Ok _)
-    (explain_carried_out _ _ _ (sym c.check_decision.ensures ∙ c.in_ok-check_decision.was) c.load_pair-loaded.ensures _ c.mode_of-mode.ensures count _ _ (rw (← pairs) c.if-marks-pairs.false) (let room = c.if-triples-entries.false in omega arith)
+    (explain_carried_out _ _ _ (sym c.check_decision.ensures ∙ c.in_ok-check_decision.was) c.load_pair-loaded.ensures _ c.mode_of-mode.ensures count _ _
+    (let fits = c.if-marks-pairs.false in omega (arith, pairs)) (let fits = c.if-triples-entries.false in omega arith)
     (omega (arith, three)) _ made pairs (ap (λ (z : List ℕ). z ++ drop c.pairs-pairs.result c.args.marks.now) c.copy_from_slice.ensures.after) triples))

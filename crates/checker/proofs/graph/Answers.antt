@@ -25,5 +25,5 @@ pub returns : goal.returns
 returns c =
     let bytes = rw (c.sides-sides.ensures.demand, c.sides-sides.ensures.supply) at c.measure-extent.ensures.bytes in
     let exit = rw (c.sides-sides.ensures.demand, c.sides-sides.ensures.supply) at c.write.ensures in
-    as_answer_slice_demands (graph_shown _ _ _ _ (Ok c.measure-extent.result.bytes)
-    (graph_written _ _ (sym c.check_pair.ensures ∙ c.in_ok-check_pair.was) _ (text_found _ _ c.load_pair-loaded.ensures) _ bytes _ _ (let fits = c.if-out-extent.false in omega arith) exit))
+    as_answer_slice_demands (graph_shown _ _ _ _ (Ok _)
+    (graph_written _ _ (sym c.check_pair.ensures ∙ c.in_ok-check_pair.was) _ (text_found _ _ c.load_pair-loaded.ensures) _ bytes _ _ (let fits = c.if-out-extent.false in omega arith) exit (omega arith)))

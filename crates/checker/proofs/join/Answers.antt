@@ -4,7 +4,7 @@ use native.Mathlib.Omega.{arith}
 use Rattle.std.proofs.Common.{Ok, Err}
 use Rattle.tables.proofs.CheckLaws.{handed_on, then_fault, turned_back_lem}
 use Rattle.checker.specs.Join.{join_checks, join_answer, join_slice}
-use Rattle.checker.proofs.JoinLaws.{first_filed, second_filed, product_few, write_answers, joined_table}
+use Rattle.checker.proofs.JoinLaws.{first_filed, second_filed, product_few, size_told, write_answers, joined_table}
 use Rattle.rules.proofs.ClauseLaws.{as_answer_slice_demands}
 use Rattle.checker.proofs.join.Goals as goal
 
@@ -36,4 +36,4 @@ returns c =
     let written =
     write_answers _ _ _ (sym c.check_join.ensures ∙ c.in_ok-check_join.was) c.load-first_machine.ensures c.load-second_machine.ensures c.args.common
     (omega arith) c.pairs_with-states.ensures _ _ c.write.ensures.answer c.write.ensures.slice c.in_ok-rows.was in
-    as_answer_slice_demands (joined_table _ _ _ _ _ _ (Ok _) (written.answer, written.slice))
+    as_answer_slice_demands (joined_table _ _ _ _ _ _ (Ok _) (size_told (omega arith) (omega arith) ∙ written.answer, written.slice))

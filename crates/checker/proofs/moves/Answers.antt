@@ -1,5 +1,6 @@
 -- `checker::moves` meets its contract. What turns back the pair is handed on; then what is counted is what is written.
 use mathlib.Core.Path.{sym, ◌∙◌}
+use native.Mathlib.Omega.{arith}
 use Rattle.std.proofs.Common.{Ok, Err}
 use Rattle.tables.specs.Checks.{refuse}
 use Rattle.tables.specs.declared.Reason.TheVariants.{NoRoom}
@@ -18,11 +19,11 @@ unfolding moves_answer moves_slice
 returns-then-out-count c =
     let count = rw (c.sides-sides.ensures.demand, c.sides-sides.ensures.supply) at c.count-count.ensures in
     rw c.new.ensures (as_answer_slice_demands (moves_shown _ _ _ _ (Err (refuse NoRoom 0))
-    (turned_back_lem _ (refuse NoRoom 0) _ _ _ (short_fault _ _ (sym c.check_pair.ensures ∙ c.in_ok-check_pair.was) _ (survivors_found _ _ c.load_pair-loaded.ensures) _ count _ c.if-out-count.true))))
+    (turned_back_lem _ (refuse NoRoom 0) _ _ _ (short_fault _ _ (sym c.check_pair.ensures ∙ c.in_ok-check_pair.was) _ (survivors_found _ _ c.load_pair-loaded.ensures) _ count _ (let short = c.if-out-count.true in omega arith)))))
 
 pub returns : goal.returns
 returns c =
     let count = rw (c.sides-sides.ensures.demand, c.sides-sides.ensures.supply) at c.count-count.ensures in
     let exit = rw (c.sides-sides.ensures.demand, c.sides-sides.ensures.supply) at c.write.ensures in
-    as_answer_slice_demands (moves_shown _ _ _ _ (Ok c.count-count.result)
-    (moves_written _ _ (sym c.check_pair.ensures ∙ c.in_ok-check_pair.was) _ (survivors_found _ _ c.load_pair-loaded.ensures) _ count _ _ c.if-out-count.false exit))
+    as_answer_slice_demands (moves_shown _ _ _ _ (Ok _)
+    (moves_written _ _ (sym c.check_pair.ensures ∙ c.in_ok-check_pair.was) _ (survivors_found _ _ c.load_pair-loaded.ensures) _ count _ _ (let fits = c.if-out-count.false in omega arith) exit (omega arith)))
