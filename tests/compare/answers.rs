@@ -3,6 +3,7 @@
 
 use crate::file::{open, refuse, Kind, Refusal, Row, Table, MOST_ROWS, MOST_STATES};
 use crate::graph::{graph, Graph};
+use crate::pick::picked;
 use crate::question::{Operation, Question, HEAD_LENGTH};
 use crate::report::report;
 use crate::rules::{
@@ -19,6 +20,8 @@ pub struct Answer {
     /// The graph that the output tells of, where there is one.
     pub graph: Option<Graph>,
     pub explanation: Option<Explanation>,
+    /// The numbers that Pick lists.
+    pub picked: Option<Vec<u8>>,
 }
 
 impl Answer {
@@ -58,6 +61,7 @@ struct Returned {
     decisions: Vec<Decision>,
     graph: Option<Graph>,
     explanation: Option<Explanation>,
+    picked: Option<Vec<u8>>,
 }
 
 fn returned(values: Vec<usize>) -> Returned {
@@ -90,8 +94,8 @@ pub fn answer(input: &[u8]) -> Answer {
         }
         _ => push_line(&mut text, &lent.first),
     }
-    let Returned { decisions, graph, explanation, .. } = done;
-    Answer { text, number: Some(number), decisions, graph, explanation }
+    let Returned { decisions, graph, explanation, picked, .. } = done;
+    Answer { text, number: Some(number), decisions, graph, explanation, picked }
 }
 
 /// An answer that is never turned back.
@@ -160,13 +164,13 @@ pub fn byte_before(i: usize) -> u8 {
     (i % 251) as u8
 }
 
-/// The lent slices as they stand before the call. The bytes lent to Join, Report
-/// and Graph are held as numbers here.
+/// The lent slices as they stand before the call. The bytes lent to Join, Report,
+/// Graph and Pick are held as numbers here.
 fn lend(question: &Question) -> Lent {
     let numbers = |length: usize| (0..length).map(entry_before).collect();
     let bytes = |length: usize| (0..length).map(|i| byte_before(i) as u16).collect();
     match question.operation {
-        Operation::Join | Operation::Report | Operation::Graph => {
+        Operation::Join | Operation::Report | Operation::Graph | Operation::Pick => {
             Lent { first: bytes(question.first_length), second: Vec::new() }
         }
         Operation::Moves | Operation::Decide | Operation::Run | Operation::Explain => Lent {
@@ -188,6 +192,7 @@ fn call(question: &Question, file: &[u8], lent: &mut Lent) -> Result<Returned, R
         Operation::Join => call_join(question, &opened?, lent),
         Operation::Graph => call_graph(question, &opened?, lent),
         Operation::Explain => call_explain(question, &opened?, lent),
+        Operation::Pick => call_pick(question, &opened?, lent),
         _ => call_report(file, lent),
     }
 }
@@ -369,6 +374,23 @@ fn call_explain(
     let values = vec![triples.len()];
     let explanation = Some(Explanation { mode, mark: marks[tables.entry(pair)], triples });
     Ok(Returned { values, explanation, ..Returned::default() })
+}
+
+fn call_pick(question: &Question, tables: &[Table], lent: &mut Lent) -> Result<Returned, Refusal> {
+    let Some(demand) = tables.get(question.first_table) else {
+        return refuse(11, 0);
+    };
+    if demand.kind != Kind::Demand {
+        return refuse(12, 0);
+    }
+    let mode = mode_of(question)?;
+    let numbers = picked(tables, demand, mode, question.resources());
+    if lent.first.len() < numbers.len() {
+        return refuse(14, 0);
+    }
+    put_bytes(&numbers, lent);
+    let values = vec![numbers.len()];
+    Ok(Returned { values, picked: Some(numbers), ..Returned::default() })
 }
 
 /// Writes bytes at the start of the first slice lent.

@@ -72,6 +72,7 @@ fn question_of(word: &str, words: &mut Words) -> Result<Question, String> {
         "explain" => pair_question(Operation::Explain, words),
         "graph" => pair_question(Operation::Graph, words),
         "join" => join_question(words),
+        "pick" => pick_question(words),
         "report" => {
             words.take_this("room")?;
             Ok(Question { first_length: words.number()?, ..blank(Operation::Report) })
@@ -91,15 +92,31 @@ fn join_question(words: &mut Words) -> Result<Question, String> {
     Ok(question)
 }
 
+/// `MODE DEMAND [standing SET] room BYTES`.
+fn pick_question(words: &mut Words) -> Result<Question, String> {
+    let mut question = blank(Operation::Pick);
+    question.mode = mode_of(words)?;
+    question.first_table = words.number()?;
+    question.set = words.set_behind("standing")?;
+    words.take_this("room")?;
+    question.first_length = words.number()?;
+    Ok(question)
+}
+
+/// `full`, `partial`, or a number.
+fn mode_of(words: &mut Words) -> Result<usize, String> {
+    match words.peek() {
+        "full" | "partial" => Ok((words.take()? == "partial") as usize),
+        _ => words.number(),
+    }
+}
+
 /// `[MODE] DEMAND SUPPLY from STATE STATE [standing SET] room ENTRIES [ENTRIES]`, the
 /// mode for Decide, Run and Explain, the second number of entries for Run and Explain.
 fn pair_question(operation: Operation, words: &mut Words) -> Result<Question, String> {
     let mut question = blank(operation);
     if [Operation::Decide, Operation::Run, Operation::Explain].contains(&operation) {
-        question.mode = match words.peek() {
-            "full" | "partial" => (words.take()? == "partial") as usize,
-            _ => words.number()?,
-        };
+        question.mode = mode_of(words)?;
     }
     question.first_table = words.number()?;
     question.second_table = words.number()?;

@@ -4,6 +4,7 @@
 use crate::drafts::{draft, file_of, table_with_rows, Draft, DEMAND, SUPPLY};
 use crate::file::{open, Kind, Table, MOST_STATES};
 use crate::graph::graph;
+use crate::pick::picked;
 use crate::question::{Operation, Question, STANDING_OPERATIONS};
 use crate::random::Random;
 use crate::report::report;
@@ -41,8 +42,8 @@ const ALL_FAULTS: [Fault; 9] = [
 ];
 
 /// Every operation with every fault that makes it turn back, and more: Join gets
-/// wrong states and a wrong mode too, and Moves and Graph a wrong mode. This is
-/// meant: they must ignore them.
+/// wrong states and a wrong mode too, Moves and Graph a wrong mode, and Pick a wrong
+/// second table and wrong states. This is meant: they must ignore them.
 pub fn operations_and_faults() -> Vec<(Operation, Fault)> {
     let mut all =
         vec![(Operation::Body, Fault::FirstTable), (Operation::Report, Fault::FirstLength)];
@@ -53,6 +54,7 @@ pub fn operations_and_faults() -> Vec<(Operation, Fault)> {
         (Operation::Join, 8),
         (Operation::Graph, 8),
         (Operation::Explain, 9),
+        (Operation::Pick, 8),
     ] {
         all.extend(ALL_FAULTS[..faults].iter().map(|fault| (operation, *fault)));
     }
@@ -108,9 +110,7 @@ fn exact_question(random: &mut Random, file: &[u8], operation: Operation) -> Que
         question.set = set_for(random, operation, first, second);
         set_exact_lengths(&mut question, first, second);
     }
-    if operation == Operation::Report {
-        question.first_length = length_of_report(file);
-    }
+    set_length_by_file(&mut question, file, tables);
     question
 }
 
@@ -119,10 +119,33 @@ fn set_for(random: &mut Random, operation: Operation, first: &Table, second: &Ta
     if operation == Operation::Join {
         return common_set(random, first, second);
     }
-    if STANDING_OPERATIONS.contains(&operation) {
+    if STANDING_OPERATIONS.contains(&operation) || operation == Operation::Pick {
         return standing_set(random, first, second);
     }
     any_set(random)
+}
+
+/// The exact length for Report and for Pick, which read the whole file; for Pick where
+/// there is a demand with that number.
+pub fn set_length_by_file(question: &mut Question, file: &[u8], tables: &[Table]) {
+    let table = tables.get(question.first_table);
+    match (question.operation, table.filter(|table| table.kind == Kind::Demand)) {
+        (Operation::Report, _) => question.first_length = length_of_report(file),
+        (Operation::Pick, Some(demand)) => {
+            let listed = picked(tables, demand, mode_asked(question), question.resources());
+            question.first_length = listed.len();
+        }
+        _ => {}
+    }
+}
+
+/// The mode of a question, which is partial where the number is wrong.
+pub fn mode_asked(question: &Question) -> Mode {
+    if question.mode == 0 {
+        Mode::Full
+    } else {
+        Mode::Partial
+    }
 }
 
 /// The length of the text of `slots`, as far as a slice can be that long.
@@ -175,7 +198,7 @@ fn set_exact_lengths(question: &mut Question, first: &Table, second: &Table) {
             question.first_length = graph(tables, pair).text().len().min(LONGEST_SLICE);
         }
         Operation::Explain => {
-            let mode = if question.mode == 0 { Mode::Full } else { Mode::Partial };
+            let mode = mode_asked(question);
             let count = explain(tables, mode, &marks(tables, mode), pair).len();
             question.first_length = count_of_pairs;
             question.second_length = (3 * count).min(LONGEST_SLICE);

@@ -13,6 +13,7 @@ use crate::faults::{
     damaged_file, faulty_file, limit_file, noise, sound_file, two_faults, FAULTS, LIMITS,
     TWO_FAULTS,
 };
+use crate::panel::pick_question;
 use crate::question::{Operation, HEAD_LENGTH, RANDOM_OPERATIONS};
 use crate::random::Random;
 use crate::standing::standing_question;
@@ -63,7 +64,7 @@ const fn kind(name: &'static str, often: usize, make: fn(&mut Random, usize) -> 
     Kind { name, often, make }
 }
 
-const ROTATION: [Kind; 32] = [
+const ROTATION: [Kind; 33] = [
     kind("slots, random tables", 3, slots_random),
     kind("slots, cycles and chains", 1, slots_cycles),
     kind("slots, branching tables", 2, slots_branching),
@@ -84,15 +85,16 @@ const ROTATION: [Kind; 32] = [
     kind("calls, branching tables", 3, calls_branching),
     kind("calls, odd tables", 1, calls_odd),
     kind("calls, kinds in any order", 1, calls_any_order),
-    kind("calls, file with faults", 7, calls_faulty_file),
+    kind("calls, file with faults", 9, calls_faulty_file),
     kind("calls, two faults in order", 1, calls_two_faults),
-    kind("calls, question with faults", 4, calls_faulty_question),
+    kind("calls, question with faults", 5, calls_faulty_question),
     kind("calls, damaged file or random bytes", 1, calls_damaged),
     kind("calls, file at a limit", 1, calls_limit),
     kind("calls, Join of random tables", 2, calls_join),
     kind("calls, Join at a limit", 1, calls_join_limit),
     kind("calls, very many moves or triples", 1, calls_wide),
     kind("calls, standing resources", 4, calls_standing),
+    kind("calls, Pick", 6, calls_pick),
     kind("calls, Report", 3, calls_report),
     kind("calls, Graph", 3, calls_graph),
     kind("calls, no whole question", 1, calls_nothing),
@@ -358,6 +360,11 @@ fn calls_standing(random: &mut Random, turn: usize) -> Made {
     for_calls(question.before(&file))
 }
 
+fn calls_pick(random: &mut Random, turn: usize) -> Made {
+    let (file, question) = pick_question(random, turn);
+    for_calls(question.before(&file))
+}
+
 /// How many sorts of file Report gets.
 const REPORT_FILES: usize = 5;
 
@@ -385,7 +392,7 @@ fn calls_graph(random: &mut Random, turn: usize) -> Made {
     for_calls(likely_question(random, &file, Operation::Graph).before(&file))
 }
 
-/// Questions shorter than a head, and operations above 10; also whole ones that
+/// Questions shorter than a head, and operations above 11; also whole ones that
 /// come in pieces.
 fn calls_nothing(random: &mut Random, turn: usize) -> Made {
     let file = sound_file(random);
@@ -403,5 +410,5 @@ fn calls_nothing(random: &mut Random, turn: usize) -> Made {
 }
 
 fn unknown_operation(random: &mut Random) -> u64 {
-    random.pick(&[11, 12, 255, 256, 1 << 32, u64::MAX])
+    random.pick(&[12, 13, 255, 256, 1 << 32, u64::MAX])
 }

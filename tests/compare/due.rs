@@ -14,7 +14,7 @@ pub struct Due {
     values: Vec<usize>,
     first: Vec<u16>,
     second: Vec<u16>,
-    /// Bytes of rows, or of a text.
+    /// Bytes of rows, of a text, or of numbers listed.
     pub bytes: Vec<u8>,
 }
 
@@ -28,7 +28,9 @@ pub fn due_of(mut words: Words) -> Result<Due, String> {
             words.take_this("at")?;
             due.place = words.number()?;
         }
-        "tables" | "moves" | "steps" | "triples" | "bytes" => due.values = vec![words.number()?],
+        "tables" | "moves" | "steps" | "triples" | "bytes" | "picked" => {
+            due.values = vec![words.number()?];
+        }
         "states" => {
             due.values = vec![words.number()?];
             words.take_this("rows")?;
@@ -56,6 +58,12 @@ impl Due {
             "step" | "triple" | "row" => take_numbers(words, &mut self.second),
             "rows" => {
                 self.bytes.extend(words.rows()?.iter().flat_map(body_form));
+                Ok(())
+            }
+            "numbers" => {
+                while !words.at_end() {
+                    self.bytes.push(words.byte()?);
+                }
                 Ok(())
             }
             other => Err(format!("'{other}' is no part of an answer")),
@@ -86,7 +94,7 @@ impl Due {
                 push_line(&mut text, &entries_due(&self.first, question.first_length)?);
                 push_line(&mut text, &entries_due(&self.second, question.second_length)?);
             }
-            Operation::Join | Operation::Report | Operation::Graph => {
+            Operation::Join | Operation::Report | Operation::Graph | Operation::Pick => {
                 push_line(&mut text, &self.bytes_due(question.first_length)?);
             }
         }

@@ -17,6 +17,8 @@ mod due;
 mod faults;
 mod file;
 mod graph;
+mod panel;
+mod pick;
 mod programs;
 mod question;
 mod random;

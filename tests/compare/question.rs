@@ -16,10 +16,11 @@ pub enum Operation {
     Constants,
     Graph,
     Explain,
+    Pick,
 }
 
 /// All operations, each at its number.
-pub const OPERATIONS: [Operation; 11] = [
+pub const OPERATIONS: [Operation; 12] = [
     Operation::Open,
     Operation::Body,
     Operation::Moves,
@@ -31,10 +32,11 @@ pub const OPERATIONS: [Operation; 11] = [
     Operation::Constants,
     Operation::Graph,
     Operation::Explain,
+    Operation::Pick,
 ];
 
 /// Those that random cases ask for.
-pub const RANDOM_OPERATIONS: [Operation; 9] = [
+pub const RANDOM_OPERATIONS: [Operation; 10] = [
     Operation::Open,
     Operation::Body,
     Operation::Moves,
@@ -44,9 +46,10 @@ pub const RANDOM_OPERATIONS: [Operation; 9] = [
     Operation::Report,
     Operation::Graph,
     Operation::Explain,
+    Operation::Pick,
 ];
 
-/// Those that take a set of standing resources.
+/// Those that take two tables, a pair of states and a set of standing resources.
 pub const STANDING_OPERATIONS: [Operation; 5] = [
     Operation::Moves,
     Operation::Decide,
@@ -66,7 +69,7 @@ pub struct Question {
     pub first_length: usize,
     pub second_length: usize,
     /// A set of resources, of which the lowest 16 bits are read: of Join the common
-    /// ones, of `STANDING_OPERATIONS` those that stand.
+    /// ones, of `STANDING_OPERATIONS` and Pick those that stand.
     pub set: usize,
 }
 

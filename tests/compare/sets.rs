@@ -62,7 +62,7 @@ fn part_of(random: &mut Random, set: u16) -> u16 {
 
 /// The number of a set; two times in 32 with bits above the lowest 16, which are
 /// not read.
-fn with_higher_bits(random: &mut Random, set: u16) -> usize {
+pub fn with_higher_bits(random: &mut Random, set: u16) -> usize {
     let higher = match random.below(32) {
         0 => 1 << random.between(16, 63),
         1 => random.next() as usize & !(u16::MAX as usize),

@@ -47,7 +47,7 @@ fn drawn_question(random: &mut Random, operation: Operation) -> (Vec<u8>, Questi
 }
 
 /// The table with so many states, and with another row beside one row in three.
-fn with_second_rows(
+pub fn with_second_rows(
     random: &mut Random,
     table: &Draft,
     states: usize,

@@ -3,13 +3,14 @@
 use crate::answers::{answer, Answer, Decision, Explanation};
 use crate::cases::Program;
 use crate::file::open;
+use crate::panel::{sorts_of_pick, PICKS};
 use crate::question::{Operation, Question, HEAD_LENGTH, STANDING_OPERATIONS};
 use crate::rules::{Mode, NO_ROW};
 use crate::standing::{has_to_come, sorts_of, STANDINGS};
 
-const COLUMNS: [&str; 13] = [
+const COLUMNS: [&str; 14] = [
     "slots", "aut", "Open", "Body", "Moves", "Decide", "Run", "Join", "Report", "Readers",
-    "Constants", "Graph", "Explain",
+    "Constants", "Graph", "Explain", "Pick",
 ];
 const NUMBERS: usize = 18;
 const VERDICTS: [&str; 3] = ["full yes", "full no with partial yes", "partial no"];
@@ -47,6 +48,7 @@ pub struct Tally {
     verdicts_of_slots: [usize; VERDICTS.len()],
     explanations: [usize; EXPLANATIONS.len()],
     joins: [usize; JOINS.len()],
+    picks: [usize; PICKS.len()],
     /// For each sort the operations, as they stand in `STANDING_OPERATIONS`.
     standings: [[usize; STANDING_OPERATIONS.len()]; STANDINGS.len()],
 }
@@ -65,6 +67,7 @@ impl Tally {
             verdicts_of_slots: [0; VERDICTS.len()],
             explanations: [0; EXPLANATIONS.len()],
             joins: [0; JOINS.len()],
+            picks: [0; PICKS.len()],
             standings: [[0; STANDING_OPERATIONS.len()]; STANDINGS.len()],
         }
     }
@@ -132,6 +135,12 @@ impl Tally {
         if operation == Operation::Join {
             self.count_join(question, file, answer);
         }
+        if let Some(listed) = &answer.picked {
+            let sorts = sorts_of_pick(question, file, listed);
+            for (count, found) in self.picks.iter_mut().zip(sorts) {
+                *count += found as usize;
+            }
+        }
         if let Some(place) = STANDING_OPERATIONS.iter().position(|one| *one == operation) {
             let sorts = sorts_of(question, file, answer);
             for (counts, found) in self.standings.iter_mut().zip(sorts) {
@@ -172,6 +181,9 @@ impl Tally {
         for kind in 0..JOINS.len() {
             self.joins[kind] += other.joins[kind];
         }
+        for kind in 0..PICKS.len() {
+            self.picks[kind] += other.picks[kind];
+        }
         for (counts, others) in self.standings.iter_mut().zip(other.standings) {
             for (count, other) in counts.iter_mut().zip(others) {
                 *count += other;
@@ -209,6 +221,7 @@ impl Tally {
         println!("slots: {}", listed(&VERDICTS, &self.verdicts_of_slots));
         println!("explained: {}", listed(&EXPLANATIONS, &self.explanations));
         println!("joined: {}", listed(&JOINS, &self.joins));
+        println!("picked: {}", listed(&PICKS, &self.picks));
         for (sort, name) in STANDINGS.iter().enumerate() {
             let (operations, counts): (Vec<_>, Vec<_>) = self.standing(sort).into_iter().unzip();
             println!("{name}: {}", listed(&operations, &counts));
@@ -225,7 +238,7 @@ impl Tally {
     }
 
     /// What no case hit, as sentences: numbers of the calls, verdicts of `slots`,
-    /// explanations, joins, standing sets, a long run, a long text.
+    /// explanations, joins, picks, standing sets, a long run, a long text.
     pub fn missing(&self) -> Vec<String> {
         let mut sentences = Vec::new();
         for number in 0..NUMBERS {
@@ -235,20 +248,17 @@ impl Tally {
                 }
             }
         }
-        for (name, count) in VERDICTS.iter().zip(self.verdicts_of_slots) {
-            if count == 0 {
-                sentences.push(format!("no case of slots was {name}"));
-            }
+        for name in never(&VERDICTS, &self.verdicts_of_slots) {
+            sentences.push(format!("no case of slots was {name}"));
         }
-        for (name, count) in EXPLANATIONS.iter().zip(self.explanations) {
-            if count == 0 {
-                sentences.push(format!("no pair {name} was explained"));
-            }
+        for name in never(&EXPLANATIONS, &self.explanations) {
+            sentences.push(format!("no pair {name} was explained"));
         }
-        for (name, count) in JOINS.iter().zip(self.joins) {
-            if count == 0 {
-                sentences.push(format!("no join was {name}"));
-            }
+        for name in never(&JOINS, &self.joins) {
+            sentences.push(format!("no join was {name}"));
+        }
+        for name in never(&PICKS, &self.picks) {
+            sentences.push(format!("no Pick was carried out {name}"));
         }
         for (sort, name) in STANDINGS.iter().enumerate() {
             for (operation, _) in self.standing(sort).iter().filter(|(_, count)| *count == 0) {
@@ -273,6 +283,12 @@ fn used_resources(question: &Question, file: &[u8]) -> u16 {
     found.fold(0, |all, table| all | table.resources())
 }
 
+/// The names of what was never counted.
+fn never<'a>(names: &[&'a str], counts: &[usize]) -> Vec<&'a str> {
+    let all = names.iter().zip(counts);
+    all.filter(|(_, count)| **count == 0).map(|(name, _)| *name).collect()
+}
+
 /// Counts with their names.
 fn listed(names: &[&str], counts: &[usize]) -> String {
     let words: Vec<String> =
@@ -288,6 +304,7 @@ fn can_answer(column: usize, number: usize) -> bool {
         "Open" => number <= 10,
         "Body" => number <= 11,
         "Moves" | "Graph" => number <= 14,
+        "Pick" => number <= 12 || [14, 15].contains(&number),
         "Join" => number <= 12 || [14, 16, 17].contains(&number),
         "Report" => number == 0 || number == 14,
         "Readers" | "Constants" => number == 0,

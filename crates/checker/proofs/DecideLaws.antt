@@ -1,21 +1,22 @@
 -- Laws of Decide: the answer and the slice, by what the checks find. Relies on the laws of questions about a pair and of marks.
-use Prim.Native.Nat.{ℕ, ◌*◌, ◌≤◌, ◌<◌}
+use Prim.Native.Nat.{ℕ, ◌*◌, ◌≤◌, ◌<◌, suc}
 use mathlib.Core.Path.{◌≡◌, refl, ap, ap₂, ◌∙◌}
 use mathlib.Core.List.{List, [], ◌∷◌}
+use native.Mathlib.Omega.{arith}
 use lib.Dec.{eqb}
-use lib.ListN.{length}
+use lib.ListN.{length, get_or}
 use borrow.Author.Tests.{lt-ltb, le-ltb}
 use Rattle.rules.specs.declared.Mode.{Mode}
 use Rattle.rules.specs.declared.Pair.{Pair}
 use Rattle.rules.specs.Below.{one}
 use Rattle.rules.specs.Slices.{overwrite}
 use Rattle.rules.specs.Machines.{Machine}
-use Rattle.rules.specs.Rounds.{mark, mark_at, marks}
-use Rattle.tables.specs.Checks.{refuse, fault, ◌then◌}
+use Rattle.rules.specs.Rounds.{mark, mark_at, marks, kept_count, rounds}
+use Rattle.tables.specs.Checks.{refuse, fault, ◌then◌, Checked}
 use Rattle.tables.specs.Answers.{answer, carried_out, slice_after}
 use Rattle.tables.proofs.CheckLaws.{then_left}
 use Rattle.tables.specs.declared.Reason.TheVariants.{NoRoom}
-use Rattle.std.proofs.Common.{Ok, Err}
+use Rattle.std.proofs.Common.{Ok, Err, Bool}
 use Rattle.machines.specs.Machine.{machine_in}
 use Rattle.questions.specs.declared.Loaded.{Loaded}
 use Rattle.marks.specs.declared.Summary.{Summary}
@@ -33,6 +34,15 @@ pub decide_asked : (s : List ℕ) (q : Question) (mode room : ℕ) → decide_ch
 unfolding decide_checks
 decide_asked s q mode room e = mode_asked s q mode (then_left _ _ e)
 
+-- where the first value is above 0, too
+pub value_asked : (s : List ℕ) (q : Question) (mode room v : ℕ) → get_or (decide_answer s q mode room).values 0 0 ≡ suc v → mode_checks s q mode ≡ Ok tt
+unfolding decide_answer decide_checks answer
+value_asked s q mode room v e = go _ (decide_checks s q mode room) refl e
+  where
+    go : (values : List ℕ) (c : Checked) → decide_checks s q mode room ≡ c → get_or (answer c values).values 0 0 ≡ suc v → mode_checks s q mode ≡ Ok tt
+    go values (Ok u) p e = then_left _ _ p
+    go values (Err r) p e = let none : 0 ≡ suc v = e in absurd (omega arith)
+
 module _ (s : List ℕ) (q : Question) (mode : ℕ) (a : mode_checks s q mode ≡ Ok tt) where
   pub short_fault : (room : ℕ) → room < (demand_of s q).n * (supply_of s q).n → decide_checks s q mode room ≡ Err (refuse NoRoom 0)
   unfolding decide_checks ◌then◌ fault
@@ -41,6 +51,19 @@ module _ (s : List ℕ) (q : Question) (mode : ℕ) (a : mode_checks s q mode �
   pub none_fault : (room : ℕ) → (demand_of s q).n * (supply_of s q).n ≤ room → decide_checks s q mode room ≡ Ok tt
   unfolding decide_checks ◌then◌ fault
   none_fault room l = rw (a, le-ltb room ((demand_of s q).n * (supply_of s q).n) l) refl
+
+  -- with room for the pairs it says yes or no, and the same whatever the room
+  pub decide_says : (yes : Bool) × (kept : ℕ) × (highest : ℕ)
+      × ((room : ℕ) → (demand_of s q).n * (supply_of s q).n ≤ room → decide_answer s q mode room ≡ carried_out (one yes ∷ kept ∷ highest ∷ []))
+  unfolding decide_answer answer
+  decide_says =
+      let D : Machine = demand_of s q in
+      let S : Machine = supply_of s q in (
+        eqb (mark (mode_of mode) D S q.demand.state q.supply.state) 0,
+        kept_count (mode_of mode) D S,
+        rounds (mode_of mode) D S,
+        λ room l. rw (none_fault room l) refl,
+      )
 
   asked : pair_checks s q ≡ Ok tt
   asked = mode_asked s q mode a

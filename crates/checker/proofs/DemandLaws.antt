@@ -2,20 +2,20 @@
 -- of Decide.
 use Prim.Native.Nat.{ℕ, ◌≤◌, ◌<◌}
 use mathlib.Core.Path.{◌≡◌, sym, ap, ◌∙◌, subst}
-use mathlib.Core.Bool.{Bool, true, not, ◌&&◌}
+use mathlib.Core.Bool.{Bool, true, not, ◌&&◌, false}
 use mathlib.Core.List.{List, [], ◌∷◌}
 use native.Mathlib.Omega.{arith}
 use lib.Dec.{T, ltb, ltb→lt, lt→ltb, eqb, eqb→eq}
 use lib.ListN.{length, get_or}
 use Rattle.rules.specs.declared.Mode.{Mode}
 use Rattle.rules.specs.declared.Mode.TheVariants.{Full}
-use Rattle.rules.specs.Below.{max_below, one}
+use Rattle.rules.specs.Below.{max_below, one, list_below}
 use Rattle.rules.specs.Slices.{overwrite}
 use Rattle.rules.specs.Machines.{Machine, Sound}
 use Rattle.rules.specs.Relations.{Pairs, Passing, Meets}
 use Rattle.rules.specs.Rounds.{KeptSet, mark, mark_at, marks, count_pairs, kept_count, struck_count, rounds}
 use Rattle.rules.proofs.Booleans.{T_true, T_false, true-T, eq-T, and_i, and_l, and_r}
-use Rattle.rules.proofs.BelowLaws.{count_cong, max_cong, one_same}
+use Rattle.rules.proofs.BelowLaws.{count_cong, max_cong, one_same, length-list_below}
 use Rattle.rules.proofs.RelationLaws.{holds_mono}
 use Rattle.rules.proofs.RoundLaws.{below_pair}
 use Rattle.rules.proofs.MarkLaws.{mark_zero, mark_round, kept_set_meets, kept_set_largest, rounds_struck}
@@ -25,7 +25,7 @@ use Rattle.checker.specs.declared.Verdict.{Verdict}
 use Rattle.tables.specs.Answers.{carried_out, slice_after}
 use Rattle.tables.proofs.CheckLaws.{passed}
 use Rattle.tables.specs.Checks.{Checked}
-use Rattle.std.proofs.Common.{Result, Ok}
+use Rattle.std.proofs.Common.{Result, Ok, ◌↔◌, refl}
 use Rattle.marks.specs.Rounds.{HasMarks}
 use Rattle.marks.proofs.RoundLaws.{has-marks}
 use Rattle.questions.specs.declared.Question.{Question}
@@ -51,6 +51,43 @@ marks_demand mode D S slice marked = record {
     λ f. marked.each u w l m ∙ (mark_zero mode D S u w (below_pair D S u w l m)).1 f,
   );
 }
+
+-- ---- the kept set as a test
+
+module _ (D S : Machine) (slice : List ℕ) where
+  abbrev kept_test : ℕ → ℕ → Bool
+  kept_test u w = ltb u D.n && (ltb w S.n && eqb (mark_at S.n slice u w) 0)
+
+  test_kept : (u w : ℕ) → T (kept_test u w) → KeptIn D S slice u w
+  test_kept u w p =
+      let rest = and_r (ltb u D.n) (ltb w S.n && eqb (mark_at S.n slice u w) 0) p in (
+        ltb→lt u D.n (and_l (ltb u D.n) (ltb w S.n && eqb (mark_at S.n slice u w) 0) p),
+        ltb→lt w S.n (and_l (ltb w S.n) (eqb (mark_at S.n slice u w) 0) rest),
+        eqb→eq (mark_at S.n slice u w) 0 (and_r (ltb w S.n) (eqb (mark_at S.n slice u w) 0) rest),
+      )
+
+  kept_test_lem : (u w : ℕ) → KeptIn D S slice u w → T (kept_test u w)
+  kept_test_lem u w (l, k, e) =
+      and_i (ltb u D.n) (ltb w S.n && eqb (mark_at S.n slice u w) 0) (lt→ltb u D.n l)
+      (and_i (ltb w S.n) (eqb (mark_at S.n slice u w) 0) (lt→ltb w S.n k) (eq-T (mark_at S.n slice u w) 0 e))
+
+  test_meets : (mode : Mode) → Meets mode D S (KeptIn D S slice) → Meets mode D S (Passing kept_test)
+  test_meets mode m = record {
+    below = λ u w p. ((test_kept u w p).0, (test_kept u w p).1);
+    holds = λ u w p. holds_mono mode D S (KeptIn D S slice) (Passing kept_test) kept_test_lem u w (m.holds u w (test_kept u w p));
+  }
+
+-- a verdict other than no, exactly if some set that meets the definition holds the start pair
+some_set : (mode : Mode) (D S : Machine) (t s verdict kept : ℕ) (slice : List ℕ) → ThirdDemand mode D S t s verdict kept slice
+    → (verdict ≡ 0 → ⊥) ↔ ((R : ℕ → ℕ → Bool) × Meets mode D S (Passing R) × T (R t s))
+some_set mode D S t s verdict kept slice h = (
+  λ some. (kept_test D S slice, test_meets D S slice mode h.ours, held some (kept_test D S slice t s) refl),
+  λ (R, m, r) e. h.no_exactly.0 e R m r,
+)
+  where
+    held : (verdict ≡ 0 → ⊥) → (b : Bool) → kept_test D S slice t s ≡ b → T (kept_test D S slice t s)
+    held some true e = rw e tt
+    held some false e = absurd (some (h.no_exactly.1 (λ R m r. rw e at (kept_test_lem D S slice t s (h.rivals R m t s r)))))
 
 -- ---- what a verdict and a slice tell
 
@@ -105,36 +142,16 @@ module _ (mode : Mode) (D S : Machine) (t s verdict kept highest : ℕ) (slice :
     );
   }
 
-  -- the kept set as a test
-  abbrev kept_test : ℕ → ℕ → Bool
-  kept_test u w = ltb u D.n && (ltb w S.n && eqb (mark_at S.n slice u w) 0)
-
-  test_kept : (u w : ℕ) → T (kept_test u w) → KeptIn D S slice u w
-  test_kept u w p =
-      let rest = and_r (ltb u D.n) (ltb w S.n && eqb (mark_at S.n slice u w) 0) p in (
-        ltb→lt u D.n (and_l (ltb u D.n) (ltb w S.n && eqb (mark_at S.n slice u w) 0) p),
-        ltb→lt w S.n (and_l (ltb w S.n) (eqb (mark_at S.n slice u w) 0) rest),
-        eqb→eq (mark_at S.n slice u w) 0 (and_r (ltb w S.n) (eqb (mark_at S.n slice u w) 0) rest),
-      )
-
-  kept_test_lem : (u w : ℕ) → KeptIn D S slice u w → T (kept_test u w)
-  kept_test_lem u w (l, k, e) =
-      and_i (ltb u D.n) (ltb w S.n && eqb (mark_at S.n slice u w) 0) (lt→ltb u D.n l)
-      (and_i (ltb w S.n) (eqb (mark_at S.n slice u w) 0) (lt→ltb w S.n k) (eq-T (mark_at S.n slice u w) 0 e))
-
-  test_meets : Meets mode D S (Passing kept_test)
-  test_meets = record {
-    below = λ u w p. ((test_kept u w p).0, (test_kept u w p).1);
-    holds = λ u w p. holds_mono mode D S (KeptIn D S slice) (Passing kept_test) kept_test_lem u w (kept_meets.holds u w (test_kept u w p));
-  }
-
   pub third : ThirdDemand mode D S t s verdict kept slice
   third = record {
     room = h.marked.room;
     rivals = λ R. rival_kept (Passing R);
     ours = kept_meets;
     count = kept_counted;
-    no_exactly = (λ e R. third_all.no_exactly.0 e (Passing R), λ f. no_from (λ y. f kept_test test_meets (kept_test_lem t s (yes_kept y))));
+    no_exactly = (
+      λ e R. third_all.no_exactly.0 e (Passing R),
+      λ f. no_from (λ y. f (kept_test D S slice) (test_meets D S slice mode kept_meets) (kept_test_lem D S slice t s (yes_kept y))),
+    );
   }
 
   -- the highest mark written
@@ -212,6 +229,14 @@ module _ (file : List ℕ) (q : Question) (mode : ℕ) (entry exit : List ℕ) (
   -- for every predicate
   pub third_demand_all : ThirdDemandAll (mode_of mode) D S q.demand.state q.supply.state verdict kept exit
   third_demand_all = third_all (mode_of mode) D S q.demand.state q.supply.state verdict kept highest exit tells
+
+-- a yes, exactly if some set that meets the definition holds the pair that is asked about: the third demand, of whatever slice of this length is lent
+pub yes_exactly : (file : List ℕ) (q : Question) (mode room verdict kept highest : ℕ)
+    → decide_answer file q mode room ≡ carried_out (verdict ∷ kept ∷ highest ∷ [])
+    → (verdict ≡ 0 → ⊥) ↔ ((R : ℕ → ℕ → Bool) × Meets (mode_of mode) (demand_of file q) (supply_of file q) (Passing R) × T (R q.demand.state q.supply.state))
+yes_exactly file q mode room verdict kept highest told =
+    some_set (mode_of mode) (demand_of file q) (supply_of file q) q.demand.state q.supply.state verdict kept _
+    (third_demand file q mode (list_below room (λ i. 0)) _ refl verdict kept highest (rw (length-list_below {A = ℕ} (λ i. 0) room) told))
 
 -- what Decide ensures, from its answer and the slice
 pub demands : (file : List ℕ) (q : Question) (mode : ℕ) (entry exit : List ℕ) (r : Result Verdict Refusal)

@@ -15,6 +15,7 @@ pub enum Operation {
     Constants,
     Graph,
     Explain,
+    Pick,
 }
 
 // A number that is no operation's.
@@ -40,6 +41,7 @@ impl TryFrom<usize> for Operation {
             8 => Ok(Operation::Constants),
             9 => Ok(Operation::Graph),
             10 => Ok(Operation::Explain),
+            11 => Ok(Operation::Pick),
             _ => Err(UnknownOperation {}),
         }
     }

@@ -1,4 +1,6 @@
+pub mod NamedLaws
 pub mod PairLaws
+pub mod StartLaws
 pub mod ModeLaws
 pub mod SizeLaws
 pub mod TableLaws

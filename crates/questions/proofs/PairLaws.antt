@@ -3,6 +3,7 @@
 use Prim.Native.Nat.{ℕ, ◌+◌, ◌*◌, ◌≤◌, ◌<◌}
 use mathlib.Core.Path.{◌≡◌, ap, ap₂, ◌∙◌}
 use mathlib.Core.List.{List}
+use native.Mathlib.Nat.{mul-le-mul}
 use native.Mathlib.Omega.{arith}
 use lib.ListN.{length}
 use borrow.Author.Tests.{leb-false}
@@ -10,7 +11,6 @@ use Rattle.rules.specs.Machines.{Machine, Sound, Rises, widen}
 use Rattle.rules.proofs.MachineLaws.{moves_rise}
 use Rattle.rules.proofs.WideningLaws.{widen_sound, widen_rises, widen_none}
 use Rattle.tables.specs.File.{tables_of, entry_of, body_length, body_of}
-use Rattle.tables.specs.Open.{file_fault}
 use Rattle.tables.specs.Accepted.{TableBody, Accepted}
 use Rattle.tables.specs.Tables.{table_of, machine_of}
 use Rattle.tables.proofs.CheckLaws.{fault_passed, then_left, then_right}
@@ -24,6 +24,7 @@ use Rattle.questions.specs.declared.Loaded.{Loaded}
 use Rattle.questions.specs.declared.Question.{Question}
 use Rattle.questions.specs.declared.named.Named.{Named}
 use Rattle.questions.specs.Named.{named_checks, as_demand, as_supply}
+use Rattle.questions.proofs.NamedLaws.{IsThere, first_there, second_there}
 use Rattle.questions.specs.Pairs.{pair_checks, demand_of, supply_of, PairLoaded}
 
 -- ---- a table that was asked about
@@ -34,44 +35,34 @@ pub record TableAt (s : List ℕ) (i q : ℕ) : Type 0 where
   pub table : TableBody (entry_of s i).states (entry_of s i).rows (body_of s i)
   pub state : q < (table_of s i).n
 
-pub table_at : (s : List ℕ) (i q : ℕ) → file_fault s ≡ Ok tt → i < tables_of s → q < (table_of s i).n → TableAt s i q
-table_at s i q p l h =
-    let a : Accepted s (tables_of s) = passed_accepted s p in
-    record { within = (accepted_laid s (tables_of s) a).within i l; table = a.table i l; state = h }
+pub table_at : (s : List ℕ) (x : Named) (q : ℕ) → IsThere s x → q < (table_of s x.table).n → TableAt s x.table q
+table_at s x q there h =
+    let a : Accepted s (tables_of s) = passed_accepted s there.accepted in
+    record { within = (accepted_laid s (tables_of s) a).within x.table there.below; table = a.table x.table there.below; state = h }
 
 pub table_at_sound : (s : List ℕ) (i q : ℕ) → TableAt s i q → Sound (machine_of s i)
 table_at_sound s i q t = body_sound (entry_of s i).states (entry_of s i).rows (body_of s i) t.table
 
--- of two tables that a call names, both are in the file
-module _ (s : List ℕ) (x y : Named) (e : named_checks s x y ≡ Ok tt) where
-  pub file_passed : file_fault s ≡ Ok tt
-  unfolding named_checks
-  file_passed = then_left _ _ e
-
-  pub first_named : x.table < tables_of s
-  unfolding named_checks
-  first_named = leb-false _ _ (fault_passed _ _ _ (then_left _ _ (then_right _ _ e)))
-
-  pub second_named : y.table < tables_of s
-  unfolding named_checks
-  second_named = leb-false _ _ (fault_passed _ _ _ (then_left _ _ (then_right _ _ (then_right _ _ e))))
-
 module _ (s : List ℕ) (q : Question) (a : pair_checks s q ≡ Ok tt) where
-  tables_named : named_checks s (as_demand q.demand.table) (as_supply q.supply.table) ≡ Ok tt
+  pub tables_named : named_checks s (as_demand q.demand.table) (as_supply q.supply.table) ≡ Ok tt
   unfolding pair_checks
   tables_named = then_left _ _ a
 
   pub asked_demand : TableAt s q.demand.table q.demand.state
   unfolding pair_checks
   asked_demand =
-      table_at s q.demand.table q.demand.state (file_passed s _ _ tables_named) (first_named s _ _ tables_named)
+      table_at s (as_demand q.demand.table) q.demand.state (first_there s _ _ tables_named)
       (leb-false _ _ (fault_passed _ _ _ (then_left _ _ (then_right _ _ a))))
 
   pub asked_supply : TableAt s q.supply.table q.supply.state
   unfolding pair_checks
   asked_supply =
-      table_at s q.supply.table q.supply.state (file_passed s _ _ tables_named) (second_named s _ _ tables_named)
+      table_at s (as_supply q.supply.table) q.supply.state (second_there s _ _ tables_named)
       (leb-false _ _ (fault_passed _ _ _ (then_right _ _ (then_right _ _ a))))
+
+  -- no table has more than 64 states
+  pub few_pairs : (demand_of s q).n * (supply_of s q).n ≤ 4096
+  few_pairs = mul-le-mul asked_demand.table.few_states asked_supply.table.few_states
 
   -- ---- the two machines
 

@@ -1,27 +1,27 @@
 -- What is asked about a file, by what opening and the search for the two tables find, and that it is about a pair of states. Relies on the laws of `tables`.
 use Prim.Native.Nat.{ℕ, ◌≤◌, ◌<◌}
 use mathlib.Core.Path.{◌≡◌, refl, sym, ap, ◌∙◌}
-use mathlib.Core.Bool.{false, not}
 use mathlib.Core.List.{List}
-use lib.Dec.{eqb}
-use borrow.Author.Tests.{leb-false, le-leb, lt-leb, eq-eqb}
+use borrow.Author.Tests.{leb-false, le-leb, lt-leb}
 use Rattle.tables.specs.declared.Refusal.{Refusal}
 use Rattle.tables.specs.Checks.{Checked, refuse, fault, ◌then◌}
 use Rattle.tables.specs.Answers.{counted}
-use Rattle.tables.specs.File.{tables_of, entry_of}
-use Rattle.tables.specs.Tables.{table_of, machine_of}
+use Rattle.tables.specs.File.{tables_of}
+use Rattle.tables.specs.Tables.{machine_of}
 use Rattle.tables.specs.Open.{file_fault, open_of}
-use Rattle.tables.proofs.CheckLaws.{fault_passed, passed_fault, then_left, then_right, then_both}
-use Rattle.tables.proofs.AcceptedLaws.{passed_accepted, tables_passed, refused_fault}
+use Rattle.tables.proofs.CheckLaws.{fault_passed, then_left, then_right}
+use Rattle.tables.proofs.AcceptedLaws.{tables_passed, refused_fault}
 use Rattle.tables.specs.declared.Reason.TheVariants.{WrongKind}
 use Rattle.std.proofs.Common.{Result, Ok, Err}
-use Rattle.questions.specs.declared.Side.{Side}
 use Rattle.questions.specs.declared.Question.{Question}
-use Rattle.questions.specs.Named.{named_checks}
+use Rattle.questions.specs.Named.{as_demand, as_supply}
+use Rattle.questions.specs.Starts.{from_starts}
 use Rattle.questions.specs.Pairs.{pair_checks, supply_of}
-use Rattle.questions.specs.Questions.{first_of, first_demand, first_supply, start_of, start_side, question_of, program_checks, asked_after, asked_of}
+use Rattle.questions.specs.Questions.{first_of, first_demand, first_supply, question_of, program_checks, asked_after, asked_of}
 use Rattle.questions.proofs.PairLaws.{plain_supply}
-use Rattle.questions.proofs.TableLaws.{first_kind, start_below}
+use Rattle.questions.proofs.NamedLaws.{IsThere, both_there}
+use Rattle.questions.proofs.StartLaws.{starts_pass}
+use Rattle.questions.proofs.TableLaws.{first_kind}
 
 -- ---- by what opening finds
 
@@ -48,15 +48,13 @@ module _ (s : List ℕ) (o : Result ℕ Refusal) (e : counted o ≡ open_of s) w
         unfolding program_checks ◌then◌ fault
         program_passed h = rw (file_passed.0, file_passed.1, sym demand, sym supply, lt-leb k d l, lt-leb k u h) refl
 
-        question_is : {x y : Side} {standing : ℕ} → x ≡ start_side s d → y ≡ start_side s u → standing ≡ 0
-            → record { demand = x; supply = y; standing = standing } ≡ question_of s
-        question_is f g none = rw (file_passed.1, sym demand, sym supply) (λ i. record { demand = f i; supply = g i; standing = none i })
+        question_is : from_starts s d u 0 ≡ question_of s
+        question_is = rw (file_passed.1, sym demand, sym supply) refl
 
         -- both tables are there, and the question is of what was found
-        pub both_there : u < k → {x y : Side} {i j standing : ℕ} → x ≡ start_side s i → i ≡ d → y ≡ start_side s j → j ≡ u → standing ≡ 0
-            → Ok (record { demand = x; supply = y; standing = standing }) ≡ asked_of s
+        pub both_found : u < k → {q : Question} {i j standing : ℕ} → q ≡ from_starts s i j standing → i ≡ d → j ≡ u → standing ≡ 0 → Ok q ≡ asked_of s
         unfolding asked_of
-        both_there h f is g are none = rw (program_passed h) (ap Ok (question_is (f ∙ ap (start_side s) is) (g ∙ ap (start_side s) are) none))
+        both_found h f is are none = rw (program_passed h) (ap Ok (f ∙ (λ x. from_starts s (is x) (are x) (none x)) ∙ question_is))
 
 -- ---- the question is about a pair of states
 
@@ -73,21 +71,14 @@ module _ (s : List ℕ) (passed : program_checks s ≡ Ok tt) where
   unfolding program_checks
   supply_there = leb-false _ _ (fault_passed _ _ _ (then_right _ _ (then_right _ _ passed)))
 
-  start_state : (i : ℕ) → i < tables_of s → start_of (table_of s i).n < (table_of s i).n
-  start_state i h = start_below _ ((passed_accepted s file_fault_lem).table i h).some_state
+  demand_named : IsThere s (as_demand (first_demand s))
+  demand_named = record { accepted = file_fault_lem; below = demand_there; kind = first_kind s 1 _ demand_there }
 
-  kind_right : (kind i : ℕ) → (entry_of s i).kind ≡ kind → not (eqb (entry_of s i).kind kind) ≡ false
-  kind_right kind i h = rw (eq-eqb _ _ h) refl
+  supply_named : IsThere s (as_supply (first_supply s))
+  supply_named = record { accepted = file_fault_lem; below = supply_there; kind = first_kind s 2 _ supply_there }
 
   pub question_asked : pair_checks s (question_of s) ≡ Ok tt
-  unfolding pair_checks named_checks
-  question_asked =
-      then_both _ _
-      (then_both _ _ file_fault_lem
-      (then_both _ _ (passed_fault _ _ _ (lt-leb _ _ demand_there))
-      (then_both _ _ (passed_fault _ _ _ (lt-leb _ _ supply_there))
-      (then_both _ _ (passed_fault _ _ _ (kind_right 1 _ (first_kind s 1 _ demand_there))) (passed_fault _ _ _ (kind_right 2 _ (first_kind s 2 _ supply_there)))))))
-      (then_both _ _ (passed_fault _ _ _ (lt-leb _ _ (start_state _ demand_there))) (passed_fault _ _ _ (lt-leb _ _ (start_state _ supply_there))))
+  question_asked = starts_pass s _ _ 0 (both_there s _ _ demand_named supply_named)
 
 -- ---- by what is asked
 

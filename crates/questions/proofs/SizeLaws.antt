@@ -12,7 +12,8 @@ use Rattle.tables.proofs.AcceptedLaws.{passed_accepted}
 use Rattle.std.proofs.Common.{Ok}
 use Rattle.questions.specs.Named.{named_checks, as_demand}
 use Rattle.questions.specs.Sizes.{size_checks}
-use Rattle.questions.proofs.PairLaws.{TableAt, table_at, file_passed, first_named, second_named}
+use Rattle.questions.proofs.NamedLaws.{IsThere, first_there, second_there}
+use Rattle.questions.proofs.PairLaws.{TableAt, table_at}
 
 module _ (s : List ℕ) (i j : ℕ) (a : size_checks s i j ≡ Ok tt) where
   named : named_checks s (as_demand i) (as_demand j) ≡ Ok tt
@@ -20,14 +21,17 @@ module _ (s : List ℕ) (i j : ℕ) (a : size_checks s i j ≡ Ok tt) where
   named = then_left _ _ a
 
   -- each is in the file, and has a state 0
-  some_state : (x : ℕ) → x < tables_of s → 0 < (table_of s x).n
-  some_state x l = let t : Accepted s (tables_of s) = passed_accepted s (file_passed s _ _ named) in let some = (t.table x l).some_state in omega arith
+  some_state : (x : ℕ) → IsThere s (as_demand x) → 0 < (table_of s x).n
+  some_state x there =
+      let t : Accepted s (tables_of s) = passed_accepted s there.accepted in
+      let some = (t.table x there.below).some_state in
+      omega arith
 
   pub first_at : TableAt s i 0
-  first_at = let l = first_named s _ _ named in table_at s i 0 (file_passed s _ _ named) l (some_state i l)
+  first_at = let there = first_there s _ _ named in table_at s (as_demand i) 0 there (some_state i there)
 
   pub second_at : TableAt s j 0
-  second_at = let l = second_named s _ _ named in table_at s j 0 (file_passed s _ _ named) l (some_state j l)
+  second_at = let there = second_there s _ _ named in table_at s (as_demand j) 0 there (some_state j there)
 
   pub states_few : (table_of s i).n * (table_of s j).n ≤ 64
   unfolding size_checks

@@ -1,4 +1,4 @@
--- The first table of a kind, and the state that it is started from.
+-- The first table of a kind.
 use Prim.Native.Nat.{ℕ, zero, suc, ◌+◌, ◌≤◌, ◌<◌}
 use mathlib.Core.Path.{◌≡◌, refl, sym, ◌∙◌, ap, subst}
 use mathlib.Core.Bool.{Bool, true, false, cond}
@@ -6,7 +6,7 @@ use mathlib.Core.List.{List, [], ◌∷◌}
 use mathlib.Core.Logic.{◌⊎◌, inl, inr}
 use native.Mathlib.Omega.{arith}
 use lib.Dec.{ltb, eqb}
-use borrow.Author.Tests.{ltb-true, ltb-false, lt-ltb, le-ltb, eq-eqb, ne_eqb, eqb-true, eqb-false}
+use borrow.Author.Tests.{ltb-true, ltb-false, lt-ltb, le-ltb, eqb-true, eqb-false}
 use Rattle.std.proofs.Common.{◌++◌, Option, Some, None, Ok, Err, find}
 use Rattle.std.specs.Option.{option_or, ok_or}
 use Rattle.tables.specs.declared.Refusal.{Refusal}
@@ -14,7 +14,7 @@ use Rattle.std.specs.List.{range_with_len}
 use Rattle.std.proofs.lemmas.List.Folds.{find-append}
 use Rattle.rules.proofs.BelowLaws.{lt_cases}
 use Rattle.tables.specs.File.{entry_of}
-use Rattle.questions.specs.Questions.{first_of, start_of}
+use Rattle.questions.specs.Questions.{first_of}
 
 -- one number more
 range_more : (a n j : ℕ) → a + n ≡ j → range_with_len a (suc n) ≡ range_with_len a n ++ (j ∷ [])
@@ -96,22 +96,3 @@ module _ (s : List ℕ) (kind : ℕ) where
           last : (j < i) ⊎ (j ≡ i) → i ≤ first_of s kind i → ⊥
           last (inl m) past = ih (omega arith)
           last (inr m) past = eqb-false _ _ g (subst (λ (n : ℕ). (entry_of s n).kind ≡ kind) m e)
-
--- ---- the start
-
-pub start_one : (n : ℕ) → n ≡ 1 → start_of n ≡ 0
-unfolding start_of
-start_one n e = rw (eq-eqb n 1 e) refl
-
-pub start_other : (n : ℕ) → (n ≡ 1 → ⊥) → start_of n ≡ 1
-unfolding start_of
-start_other n h = rw (ne_eqb n 1 h) refl
-
--- it is a state
-pub start_below : (n : ℕ) → 1 ≤ n → start_of n < n
-unfolding start_of
-start_below n h = go (eqb n 1) refl
-  where
-    go : (b : Bool) → eqb n 1 ≡ b → cond b 0 1 < n
-    go true e = omega arith
-    go false e = let other = eqb-false n 1 e in omega arith

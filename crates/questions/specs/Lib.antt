@@ -2,4 +2,5 @@ pub mod Named
 pub mod Pairs
 pub mod Modes
 pub mod Sizes
+pub mod Starts
 pub mod Questions

@@ -11,6 +11,10 @@ use Rattle.questions.specs.Pairs.{pair_checks}
 unfoldable pub mode_of : ℕ → Mode
 mode_of m = cond (eqb m 0) Full Partial
 
--- "After 11, 12, 13 as above: 15 another mode"
+-- "15 another mode"
+unfoldable pub mode_fault : ℕ → Checked
+mode_fault mode = fault (ltb 1 mode) NoMode 0
+
+-- "After 11, 12, 13 as above: 15"
 unfoldable pub mode_checks : List ℕ → Question → ℕ → Checked
-mode_checks s q mode = pair_checks s q then fault (ltb 1 mode) NoMode 0
+mode_checks s q mode = pair_checks s q then mode_fault mode

@@ -6,11 +6,10 @@ use Rattle.tables.specs.declared.kinds.Kind.{Kind}
 use Rattle.tables.specs.Kinds.{code_of}
 use Rattle.tables.specs.File.{tables_of, entry_of}
 use Rattle.tables.specs.Open.{file_fault}
-use Rattle.tables.specs.Tables.{table_of}
 use Rattle.tables.specs.declared.Reason.TheVariants.{WrongKind}
-use Rattle.questions.specs.declared.Side.{Side}
 use Rattle.questions.specs.declared.Question.{Question}
 use Rattle.tables.specs.declared.Refusal.{Refusal}
+use Rattle.questions.specs.Starts.{from_starts}
 
 -- the first of the tables 0 to k - 1 that is of a kind, or k where none is
 unfoldable pub first_of : List ℕ → ℕ → ℕ → ℕ
@@ -28,17 +27,9 @@ first_demand s = first_of s 1 (tables_of s)
 abbrev pub first_supply : List ℕ → ℕ
 first_supply s = first_of s 2 (tables_of s)
 
--- "from state 1 of each (0 where n is 1)"
-unfoldable pub start_of : ℕ → ℕ
-start_of n = cond (eqb n 1) 0 1
-
--- a table with the state that it is started from
-abbrev pub start_side : List ℕ → ℕ → Side
-start_side s table = record { table = table; state = start_of (table_of s table).n }
-
 -- what is asked: the two tables, each from its start; 02, L5: "The program and 01's worked cases use the empty set."
 abbrev pub question_of : List ℕ → Question
-question_of s = record { demand = start_side s (first_demand s); supply = start_side s (first_supply s); standing = 0 }
+question_of s = from_starts s (first_demand s) (first_supply s) 0
 
 -- "a missing kind is 12 at 0"
 unfoldable pub program_checks : List ℕ → Checked

@@ -1,27 +1,15 @@
 // What a program asks about a file: its first demand table beside its first supply table, each from its start, with no standing set.
 ghost use Rattle.std.specs.Prelude.{◌≡◌};
-ghost use Rattle.questions.specs.Questions.{first_found, start_side, asked_of};
+ghost use Rattle.questions.specs.Questions.{first_found, asked_of};
 
-use crate::{Question, Side};
-use rules::Row;
-use tables::{Kind, Reason, Refusal, entry_at, open, states_of};
+use crate::Question;
+use tables::{Kind, Reason, Refusal, entry_at, open};
 
 // The first table of a kind.
 fn first_table(file: &[u8], k: usize, kind: Kind) -> Option<usize>
     ensures { result ≡ first_found file.now kind k }
 {
     (0..k).find(|i| entry_at(file, *i).has_kind(kind))
-}
-
-// A table, with the state that it is started from.
-fn start_side(file: &[u8], table: usize) -> Side
-    ensures { result ≡ start_side file.now table }
-{
-    if states_of(file, table) == 1 {
-        let state = Row::FIN as usize;
-        return Side { table, state };
-    }
-    Side { table, state: 1 }
 }
 
 // What a program asks about a file.
@@ -35,9 +23,5 @@ pub fn ask(file: &[u8]) -> Result<Question, Refusal>
     let missing = Refusal::new(Reason::WrongKind, 0);
     let demand = first_table(file, k, Kind::Demand).ok_or(missing)?;
     let supply = first_table(file, k, Kind::Supply).ok_or(missing)?;
-    Ok(Question {
-        demand: start_side(file, demand),
-        supply: start_side(file, supply),
-        standing: 0,
-    })
+    Ok(Question::from_starts(file, demand, supply, 0))
 }

@@ -2,7 +2,6 @@
 use Prim.Native.Nat.{ℕ, suc, ◌*◌, ◌≤◌}
 use mathlib.Core.Path.{◌≡◌, refl, ap, ◌∙◌}
 use mathlib.Core.List.{List, [], ◌∷◌}
-use native.Mathlib.Nat.{mul-le-mul}
 use native.Mathlib.Omega.{arith}
 use lib.Dec.{eqb}
 use lib.ListN.{length, get_or, take, drop}
@@ -20,7 +19,7 @@ use Rattle.std.proofs.Common.{Result, Ok, Err, IsOk}
 use Rattle.questions.specs.declared.Question.{Question}
 use Rattle.questions.specs.Pairs.{pair_checks, demand_of, supply_of}
 use Rattle.questions.specs.Modes.{mode_of}
-use Rattle.questions.proofs.PairLaws.{asked_demand, asked_supply}
+use Rattle.questions.proofs.PairLaws.{few_pairs}
 use Rattle.questions.proofs.ModeLaws.{known_mode}
 use Rattle.checker.specs.declared.Verdict.{Verdict}
 use Rattle.checker.specs.Calls.{decided}
@@ -35,9 +34,6 @@ values_refused : (r : Refusal) (x : ℕ) (xs : List ℕ) → turned_back r ≡ c
 values_refused r x xs e = let none : 0 ≡ suc (length xs) = ap (λ (a : Answer). length a.values) e in omega arith
 
 module _ (s : List ℕ) (q : Question) (a : pair_checks s q ≡ Ok tt) where
-  pub few_pairs : (demand_of s q).n * (supply_of s q).n ≤ 4096
-  few_pairs = mul-le-mul (asked_demand s q a).table.few_states (asked_supply s q a).table.few_states
-
   module _ (mode : ℕ) (known : mode ≤ 1) (room : ℕ) (enough : 4096 ≤ room) where
     abbrev D : Machine
     D = demand_of s q
@@ -49,7 +45,7 @@ module _ (s : List ℕ) (q : Question) (a : pair_checks s q ≡ Ok tt) where
     start = mark (mode_of mode) D S q.demand.state q.supply.state
 
     long : D.n * S.n ≤ room
-    long = let few = few_pairs in omega arith
+    long = let few = few_pairs s q a in omega arith
 
     decided_is : decide_answer s q mode room ≡ carried_out (one (eqb start 0) ∷ kept_count (mode_of mode) D S ∷ rounds (mode_of mode) D S ∷ [])
     unfolding decide_answer answer
@@ -70,7 +66,7 @@ module _ (s : List ℕ) (q : Question) (a : pair_checks s q ≡ Ok tt) where
 
     module _ (more : ℕ) (wide : 8192 ≤ more) where
       passes : run_checks s q mode room more ≡ Ok tt
-      passes = no_fault s q mode (known_mode s q mode a known) room long more (let few = few_pairs in omega arith)
+      passes = no_fault s q mode (known_mode s q mode a known) room long more (let few = few_pairs s q a in omega arith)
 
       run_is : run_answer s q mode room more ≡ carried_out (start ∷ [])
       unfolding run_answer answer
@@ -86,7 +82,7 @@ module _ (s : List ℕ) (q : Question) (a : pair_checks s q ≡ Ok tt) where
       pub steps_fit_in : (count : ℕ) → carried_out (count ∷ []) ≡ run_answer s q mode room more → 2 * count ≤ 8192
       steps_fit_in count e =
           let most = mark_within (mode_of mode) D S q.demand.state q.supply.state in
-          let few = few_pairs in
+          let few = few_pairs s q a in
           let many = run_counted count e in
           omega arith
 

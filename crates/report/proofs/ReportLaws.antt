@@ -34,7 +34,7 @@ use Rattle.report.specs.declared.pages.Found.{Found}
 use Rattle.report.specs.Pages.{found_text, verdict_of, verdict_at, steps_at, page_text}
 use Rattle.lines.proofs.LineLaws.{refused_short, file_short, start_short, verdict_short, step_short}
 use Rattle.lines.proofs.StepsLaws.{slots_lines}
-use Rattle.report.proofs.DecisionLaws.{few_pairs}
+use Rattle.questions.proofs.PairLaws.{few_pairs}
 
 -- ---- by what is asked
 

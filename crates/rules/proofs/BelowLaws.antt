@@ -61,6 +61,24 @@ module _ {A : Type 0} (f : ℕ → A) where
       go (inl k) more = Memᴰ.append_left (f n ∷ []) (more k)
       go (inr e) more = Memᴰ.append_right (list_below n f) (Memᴰ.head (ap f e))
 
+  pub mem_list_below : (n : ℕ) {y : A} → Memᴰ y (list_below n f) → (i : ℕ) × (i < n) × (y ≡ f i)
+  mem_list_below zero m = absurd (Memᴰ.not-nil m)
+  mem_list_below (suc n) {y} m = go (Memᴰ.append_cases (list_below n f) m) (λ k. mem_list_below n k)
+    where
+      go : Memᴰ y (list_below n f) ⊎ Memᴰ y (f n ∷ []) → (Memᴰ y (list_below n f) → (i : ℕ) × (i < n) × (y ≡ f i)) → (i : ℕ) × (i < suc n) × (y ≡ f i)
+      go (inl k) more = let (i, h, e) = more k in (i, omega arith, e)
+      go (inr (Memᴰ.head e)) more = (n, omega arith, e)
+      go (inr (Memᴰ.tail k)) more = absurd (Memᴰ.not-nil k)
+
+  pub pairwise-list_below : (R : A → A → Type 0) → ((i j : ℕ) → i < j → R (f i) (f j)) → (n : ℕ) → Pairwise R (list_below n f)
+  pairwise-list_below R h zero = tt
+  pairwise-list_below R h (suc n) =
+      pairwise_append R (list_below n f) (f n ∷ []) (pairwise-list_below R h n) (λ y k. absurd (Memᴰ.not-nil k), tt) (λ x y k m. last x y k m)
+    where
+      last : (x y : A) → Memᴰ x (list_below n f) → Memᴰ y (f n ∷ []) → R x y
+      last x y k (Memᴰ.head e) = let (i, l, d) = mem_list_below n k in subst (λ (z : A). R z y) (sym d) (subst (λ (z : A). R (f i) z) (sym e) (h i n l))
+      last x y k (Memᴰ.tail m) = absurd (Memᴰ.not-nil m)
+
   -- a list is made of two
   pub list_below-append : (m k : ℕ) → list_below (m + k) f ≡ list_below m f ++ list_below k (λ i. f (m + i))
   list_below-append m zero = let e : m + 0 ≡ m = omega arith in rw e (sym (append-nil (list_below m f)))

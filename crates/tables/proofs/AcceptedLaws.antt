@@ -15,7 +15,7 @@ use Rattle.rules.proofs.RowLaws.{rises_trans}
 use Rattle.tables.specs.declared.Refusal.{Refusal}
 use Rattle.tables.specs.declared.kinds.Kind.{Kind}
 use Rattle.tables.specs.declared.kinds.UnknownKind.{UnknownKind}
-use Rattle.tables.specs.Checks.{Checked, scan}
+use Rattle.tables.specs.Checks.{Checked, scan, ◌then◌}
 use Rattle.tables.specs.Answers.{Answer, answer, counted, carried_out}
 use Rattle.tables.specs.File.{tables_of, entry_place, entry_of, body_length, end_before, body_of, row_of}
 use Rattle.tables.specs.Open.{outside, header_fault, entry_fault, length_fault, is_above, row_fault, body_fault, file_fault, open_of}
@@ -301,6 +301,16 @@ module _ (s : List ℕ) where
       go : (c : Checked) → file_fault s ≡ c → counted (Err r) ≡ answer c (tables_of s ∷ []) → file_fault s ≡ Err r
       go (Ok u) p q = let v : [] ≡ tables_of s ∷ [] = ap (λ (a : Answer). a.values) q in absurd (no_values (sym v))
       go (Err f) p q = p ∙ ap Err (turned_by _ _ (sym q))
+
+  -- what opening finds is handed on, or a check of the count of tables goes on
+  pub open_stops : {o : Result ℕ Refusal} {r : Refusal} (b : Checked) → counted o ≡ open_of s → o ≡ Err r → Err r ≡ file_fault s then b
+  unfolding ◌then◌
+  open_stops b e p = rw (refused_fault _ (rw p at e)) refl
+
+  pub open_goes : {o : Result ℕ Refusal} {k : ℕ} {c : Checked} → counted o ≡ open_of s → o ≡ Ok k → (check : ℕ → Checked) → c ≡ check k
+      → c ≡ file_fault s then check (tables_of s)
+  unfolding ◌then◌
+  open_goes e p check q = let (passed, count) = tables_passed _ (rw p at e) in rw (passed, count) q
 
   pub opened_accepted : (k : ℕ) → counted (Ok k) ≡ open_of s → Accepted s k
   opened_accepted k e = let p = tables_passed k e in rw p.1 at (passed_accepted p.0)

@@ -1,32 +1,37 @@
--- Laws of Body: what its checks find, by what opening finds. Relies on the laws of accepted files.
-use Prim.Native.Nat.{ℕ, ◌≤◌, ◌<◌}
-use mathlib.Core.Path.{◌≡◌, ap}
+-- Laws of Body: what its checks find. Relies on the laws of accepted files.
+use Prim.Native.Nat.{ℕ, ◌+◌, ◌≤◌}
+use mathlib.Core.Path.{◌≡◌, refl, ap}
+use mathlib.Core.Bool.{true, false}
 use mathlib.Core.List.{List, []}
-use borrow.Author.Tests.{le-leb, lt-leb}
+use lib.ListN.{length}
+use borrow.Author.Tests.{leb-false}
 use Rattle.tables.specs.declared.Refusal.{Refusal}
-use Rattle.tables.specs.Checks.{Checked, refuse, fault, ◌then◌}
-use Rattle.tables.specs.Answers.{answer, counted}
-use Rattle.tables.specs.Open.{open_of}
-use Rattle.tables.specs.Body.{body_checks, body_answer}
-use Rattle.tables.proofs.AcceptedLaws.{tables_passed, refused_fault}
-use Rattle.tables.specs.declared.Reason.TheVariants.{NoTable}
-use Rattle.std.proofs.Common.{Result, Ok, Err}
+use Rattle.tables.specs.Checks.{Checked}
+use Rattle.tables.specs.Answers.{answer}
+use Rattle.tables.specs.File.{tables_of, entry_of, body_length}
+use Rattle.tables.specs.Body.{number_fault, body_checks, body_answer}
+use Rattle.tables.proofs.CheckLaws.{fault_passed, then_left, then_right}
+use Rattle.tables.proofs.AcceptedLaws.{passed_accepted, accepted_laid}
+use Rattle.std.specs.Result.{is_err}
+use Rattle.std.proofs.Common.{Ok, Err}
 
-module _ (s : List ℕ) (table : ℕ) (o : Result ℕ Refusal) (e : counted o ≡ open_of s) where
-  pub body_refused : (r : Refusal) → o ≡ Err r → body_checks s table ≡ Err r
-  unfolding body_checks ◌then◌
-  body_refused r q = rw (refused_fault s r (rw q at e))
+-- a call that names a table which is in the file is about the bytes that its entry tells of
+pub body_within : (s : List ℕ) (table : ℕ) → body_checks s table ≡ Ok tt → (entry_of s table).offset + body_length (entry_of s table) ≤ length s
+unfolding body_checks number_fault
+body_within s table e =
+    let there = leb-false _ _ (fault_passed _ _ _ (then_right _ _ e)) in
+    (accepted_laid s (tables_of s) (passed_accepted s (then_left _ _ e))).within table there
 
-  pub body_missing : (k : ℕ) → o ≡ Ok k → k ≤ table → body_checks s table ≡ Err (refuse NoTable 0)
-  unfolding body_checks ◌then◌ fault
-  body_missing k q l = let p = tables_passed s k (rw q at e) in rw (p.0, p.1, le-leb k table l)
+-- whether checks found a fault
+pub found_fault : (c : Checked) → is_err c ≡ true → (r : Refusal) × (c ≡ Err r)
+found_fault (Ok u) e = cc
+found_fault (Err r) e = (r, refl)
 
-  pub body_there : (k : ℕ) → o ≡ Ok k → table < k → body_checks s table ≡ Ok tt
-  unfolding body_checks ◌then◌ fault
-  body_there k q l = let p = tables_passed s k (rw q at e) in rw (p.0, p.1, lt-leb k table l)
+pub found_none : (c : Checked) → is_err c ≡ false → c ≡ Ok tt
+found_none (Ok u) e = refl
+found_none (Err r) e = cc
 
 -- what the checks find, and what it says to the caller
-pub body_answered : (s : List ℕ) (table : ℕ) (r : Checked) → r ≡ body_checks s table
-    → record { checks : r ≡ body_checks s table; answer : answer r [] ≡ body_answer s table }
+pub body_answered : (s : List ℕ) (table : ℕ) (r : Checked) → r ≡ body_checks s table → answer r [] ≡ body_answer s table
 unfolding body_answer
-body_answered s table r e = record { checks = e; answer = ap (λ (x : Checked). answer x []) e }
+body_answered s table r e = ap (λ (x : Checked). answer x []) e

@@ -86,6 +86,10 @@ pub then_goes : (a b c d : Checked) → c ≡ a → c ≡ Ok tt → d ≡ b → 
 unfolding ◌then◌
 then_goes a b c d p q e = rw (sym p, q) e
 
+-- the same of a `?` on the first check
+pub hand_stops : {a c : Checked} {r : Refusal} (b o : Checked) → IsErrAnd o (λ x. x ≡ r) → c ≡ a → c ≡ Err r → o ≡ a then b
+hand_stops b o h p q = handed_on o _ h ∙ sym q ∙ then_stops _ b _ _ p q
+
 pub then_fault : (a b : Checked) (r : Refusal) → a ≡ Err r → a then b ≡ Err r
 unfolding ◌then◌
 then_fault a b r e = rw e refl

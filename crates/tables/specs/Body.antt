@@ -7,9 +7,13 @@ use Rattle.tables.specs.Part.{Span, span}
 use Rattle.tables.specs.Open.{file_fault}
 use Rattle.tables.specs.declared.Reason.TheVariants.{NoTable}
 
--- "After Open's numbers, 11: table number not below k."
+-- "11: table number not below k"
+unfoldable pub number_fault : ℕ → ℕ → Checked
+number_fault k table = fault (leb k table) NoTable 0
+
+-- "After Open's numbers, 11"
 unfoldable pub body_checks : List ℕ → ℕ → Checked
-body_checks s table = file_fault s then fault (leb (tables_of s) table) NoTable 0
+body_checks s table = file_fault s then number_fault (tables_of s) table
 
 -- "a second question on the same inputs gives the number and place, or 0 and 0"
 unfoldable pub body_answer : List ℕ → ℕ → Answer

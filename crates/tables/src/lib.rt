@@ -7,7 +7,7 @@ ghost use Rattle.tables.specs.Checks.{refuse};
 ghost use Rattle.tables.specs.Answers.{number_of, answer, counted};
 ghost use Rattle.tables.specs.Open.{open_of};
 ghost use Rattle.tables.specs.Part.{PartOf};
-ghost use Rattle.tables.specs.Body.{body_checks, body_answer, body_span};
+ghost use Rattle.tables.specs.Body.{number_fault, body_checks, body_answer, body_span};
 
 mod checks;
 mod kinds;
@@ -70,7 +70,18 @@ pub fn open(file: &[u8]) -> Result<usize, Refusal>
     Ok(table_count(file))
 }
 
-// Why a call of `body` on the same inputs is turned back. `let .. else` takes the count of tables from Open's answer, here and wherever a call opens a file.
+// Whether a number is that of one of k tables.
+pub fn check_number(k: usize, table: usize) -> Result<(), Refusal>
+    ensures { result ≡ number_fault k table }
+{
+    if k <= table {
+        return Err(Refusal::new(Reason::NoTable, 0));
+    }
+    Ok(())
+}
+
+// Why a call of `body` on the same inputs is turned back. `let .. else` takes the count of tables from Open's answer, here and in `questions::ask`; all other
+// calls open the file by this function.
 pub fn check_body(file: &[u8], table: usize) -> Result<(), Refusal>
     ensures checks { result ≡ body_checks file.now table }
     ensures answer { answer result [] ≡ body_answer file.now table }
@@ -79,21 +90,15 @@ pub fn check_body(file: &[u8], table: usize) -> Result<(), Refusal>
     let Ok(k) = found else {
         return Err(found.unwrap_err());
     };
-    if k <= table {
-        return Err(Refusal::new(Reason::NoTable, 0));
-    }
-    Ok(())
+    check_number(k, table)
 }
 
 // The part of the file that holds the body of a table; turned back, the empty part at the file's start.
 pub fn body(file: &[u8], table: usize) -> &[u8]
     ensures { PartOf file.entry result (body_span file.now table) }
 {
-    let Ok(k) = open(file) else {
+    if check_body(file, table).is_err() {
         return &file[..0];
-    };
-    if table < k {
-        return reads::entry_body(file, entry_at(file, table));
     }
-    &file[..0]
+    reads::entry_body(file, entry_at(file, table))
 }

@@ -1,14 +1,14 @@
 -- `questions::check_pair` meets its contract. Each answer is the first check that finds a fault.
-use mathlib.Core.Path.{refl, sym, ◌∙◌}
+use mathlib.Core.Path.{refl}
 use borrow.Author.Tests.{le-leb, lt-leb}
 use Rattle.tables.specs.Checks.{fault, ◌then◌}
-use Rattle.tables.proofs.CheckLaws.{handed_on, then_stops, then_goes}
+use Rattle.tables.proofs.CheckLaws.{hand_stops, then_goes}
 use Rattle.questions.specs.Pairs.{pair_checks}
 use Rattle.questions.proofs.check_pair.Goals as goal
 
 pub returns-in_err-check_named : goal.returns-in_err-check_named
 unfolding pair_checks
-returns-in_err-check_named c = handed_on _ _ c.from_residual.ensures.1 ∙ sym c.in_err-check_named.was ∙ then_stops _ _ _ _ c.check_named.ensures c.in_err-check_named.was
+returns-in_err-check_named c = hand_stops _ _ c.from_residual.ensures.1 c.check_named.ensures c.in_err-check_named.was
 
 pub returns-then-states_of-question : goal.returns-then-states_of-question
 unfolding pair_checks ◌then◌ fault

@@ -1,20 +1,19 @@
--- `tables::body` meets its contract. By what opening finds: its refusal, a table that is not there, or the body that the entry tells of, which lies in an accepted file.
-use mathlib.Core.Path.{refl}
+-- `tables::body` meets its contract. By what the checks find: a fault, or a body which the entry tells of, and which lies in an accepted file.
+use mathlib.Core.Path.{refl, sym, ◌∙◌}
 use native.Mathlib.Omega.{arith}
 use Rattle.tables.specs.Body.{body_span}
 use Rattle.tables.proofs.FileLaws.{span_within}
-use Rattle.tables.proofs.BodyLaws.{body_refused, body_missing, body_there}
-use Rattle.tables.proofs.AcceptedLaws.{opened_laid}
+use Rattle.tables.proofs.BodyLaws.{body_within, found_fault, found_none}
 use Rattle.tables.proofs.body.Goals as goal
 
-pub returns-in_default : goal.returns-in_default
+pub returns-then-is_err : goal.returns-then-is_err
 unfolding body_span
-returns-in_default c = rw (body_refused _ _ _ c.open.ensures _ c.in_default.is) (record { block = refl; start = omega arith; bytes = refl })
-
-pub returns-then-table-k : goal.returns-then-table-k
-unfolding body_span
-returns-then-table-k c = let laid = opened_laid c.args.file.now _ (rw c.in-Ok.is at c.open.ensures) in rw (body_there _ _ _ c.open.ensures _ c.in-Ok.is c.if-table-k.true, ← c.entry_at.ensures) (rw (span_within c.args.file.now c.entry_at.result (rw c.entry_at.ensures (laid.within _ c.if-table-k.true))) at c.entry_body.ensures)
+returns-then-is_err c =
+    let (r, fault) = found_fault _ (sym c.is_err.ensures.value ∙ c.if-is_err.true) in
+    rw (sym c.check_body.ensures.checks ∙ fault) (record { block = refl; start = omega arith; bytes = refl })
 
 pub returns : goal.returns
 unfolding body_span
-returns c = rw (body_missing _ _ _ c.open.ensures _ c.in-Ok.is c.if-table-k.false) (record { block = refl; start = omega arith; bytes = refl })
+returns c =
+    let none = sym c.check_body.ensures.checks ∙ found_none _ (sym c.is_err.ensures.value ∙ c.if-is_err.false) in
+    rw (none, ← c.entry_at.ensures) (rw (span_within c.args.file.now c.entry_at.result (rw c.entry_at.ensures (body_within _ _ none))) at c.entry_body.ensures)

@@ -1,13 +1,19 @@
--- `tables::check_body` meets its contract. By what opening finds: its refusal, a table that is not there, or a body.
-use Rattle.std.proofs.Common.{sym}
-use Rattle.tables.proofs.BodyLaws.{body_refused, body_missing, body_there, body_answered}
+-- `tables::check_body` meets its contract. What opening finds is handed on; else the number tells.
+use Rattle.tables.specs.Body.{number_fault, body_checks}
+use Rattle.tables.proofs.AcceptedLaws.{open_stops, open_goes}
+use Rattle.tables.proofs.BodyLaws.{body_answered}
 use Rattle.tables.proofs.check_body.Goals as goal
 
-pub returns-in_default : goal.returns-in_default
-returns-in_default c = body_answered _ _ _ (sym (body_refused c.args.file.now c.args.table _ c.open-found.ensures _ c.unwrap_err.ensures))
+pub returns-in_default-clause-checks : goal.returns-in_default-clause-checks
+unfolding body_checks
+returns-in_default-clause-checks c = open_stops _ _ c.open-found.ensures c.unwrap_err.ensures
 
-pub returns-then-k-table : goal.returns-then-k-table
-returns-then-k-table c = body_answered _ _ _ (rw c.new.ensures (sym (body_missing c.args.file.now c.args.table _ c.open-found.ensures _ c.in-Ok.is c.if-k-table.true)))
+pub returns-in_default-clause-answer : goal.returns-in_default-clause-answer
+returns-in_default-clause-answer c = body_answered _ _ _ (returns-in_default-clause-checks c)
 
-pub returns : goal.returns
-returns c = body_answered _ _ _ (sym (body_there c.args.file.now c.args.table _ c.open-found.ensures _ c.in-Ok.is c.if-k-table.false))
+pub returns-clause-checks : goal.returns-clause-checks
+unfolding body_checks
+returns-clause-checks c = open_goes _ c.open-found.ensures c.in-Ok.is (λ k. number_fault k c.args.table) c.check_number.ensures
+
+pub returns-clause-answer : goal.returns-clause-answer
+returns-clause-answer c = body_answered _ _ _ (returns-clause-checks c)

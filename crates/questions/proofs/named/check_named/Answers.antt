@@ -1,32 +1,44 @@
--- `questions::named::check_named` meets its contract. What opening finds is handed on; then each answer is the first check that finds a fault.
-use mathlib.Core.Path.{refl, sym, ap, ◌∙◌}
-use borrow.Author.Tests.{le-leb, lt-leb}
-use Rattle.tables.specs.Checks.{fault, ◌then◌}
-use Rattle.tables.specs.Answers.{counted}
-use Rattle.tables.proofs.AcceptedLaws.{tables_passed, refused_fault}
+-- `questions::named::check_named` meets its contract: each answer is the first check that finds a fault.
+use mathlib.Core.Path.{◌≡◌, ap, ◌∙◌}
+use native.Mathlib.Omega.{arith}
+use Rattle.std.proofs.Common.{ℕ}
+use Rattle.tables.specs.Body.{number_fault, body_checks}
+use Rattle.tables.proofs.CheckLaws.{hand_stops, then_goes, then_assoc}
 use Rattle.questions.specs.Named.{named_checks}
+use Rattle.questions.proofs.NamedLaws.{body_same}
 use Rattle.questions.proofs.named.check_named.Goals as goal
 
-pub returns-in_default : goal.returns-in_default
-unfolding named_checks ◌then◌
-returns-in_default c = rw (refused_fault c.args.file.now _ (ap counted (sym c.unwrap_err.ensures) ∙ c.open-found.ensures)) refl
+pub returns-in_err-check_body : goal.returns-in_err-check_body
+unfolding named_checks body_checks
+returns-in_err-check_body c =
+    let first : c.check_body.result ≡ body_checks c.args.file.now c.args.first.table = body_same _ c.check_body.ensures.checks (omega arith) in
+    hand_stops _ _ c.from_residual.ensures.1 first c.in_err-check_body.was ∙ then_assoc _ _ _
 
-pub returns-then-k-first : goal.returns-then-k-first
-unfolding named_checks ◌then◌ fault
-returns-then-k-first c = let t = tables_passed c.args.file.now _ (ap counted (sym c.in-Ok.is) ∙ c.open-found.ensures) in simp (t.0, t.1, le-leb _ _ c.if-k-first.true, c.new.ensures) refl
+pub returns-in_err-check_number : goal.returns-in_err-check_number
+unfolding named_checks body_checks
+returns-in_err-check_number c =
+    let first : c.check_body.result ≡ body_checks c.args.file.now c.args.first.table = body_same _ c.check_body.ensures.checks (omega arith) in
+    let second = c.check_number.ensures ∙ ap (λ (k : ℕ). number_fault k c.args.second.table) c.table_count.ensures in
+    then_goes _ _ _ _ first c.in_ok-check_body.was
+    (hand_stops _ _ c.from_residual-in_err-check_number.ensures.1 second c.in_err-check_number.was)
+    ∙ then_assoc _ _ _
 
-pub returns-then-k-second : goal.returns-then-k-second
-unfolding named_checks ◌then◌ fault
-returns-then-k-second c = let t = tables_passed c.args.file.now _ (ap counted (sym c.in-Ok.is) ∙ c.open-found.ensures) in simp (t.0, t.1, lt-leb _ _ c.if-k-first.false, le-leb _ _ c.if-k-second.true, c.new-then-k-second.ensures) refl
-
-pub returns-then-not-has_kind : goal.returns-then-not-has_kind
-unfolding named_checks ◌then◌ fault
-returns-then-not-has_kind c = let t = tables_passed c.args.file.now _ (ap counted (sym c.in-Ok.is) ∙ c.open-found.ensures) in simp (t.0, t.1, ← c.entry_at.ensures, lt-leb _ _ c.if-k-first.false, lt-leb _ _ c.if-k-second.false, ← c.has_kind.ensures, c.if-not-has_kind.true, c.new-then-not-has_kind.ensures) refl
-
-pub returns-then-not-has_kind-2 : goal.returns-then-not-has_kind-2
-unfolding named_checks ◌then◌ fault
-returns-then-not-has_kind-2 c = let t = tables_passed c.args.file.now _ (ap counted (sym c.in-Ok.is) ∙ c.open-found.ensures) in simp (t.0, t.1, ← c.entry_at.ensures, ← c.entry_at-2.ensures, lt-leb _ _ c.if-k-first.false, lt-leb _ _ c.if-k-second.false, ← c.has_kind.ensures, c.if-not-has_kind.false, ← c.has_kind-2.ensures, c.if-not-has_kind-2.true, c.new-then-not-has_kind-2.ensures) refl
+pub returns-in_err-check_kind : goal.returns-in_err-check_kind
+unfolding named_checks body_checks
+returns-in_err-check_kind c =
+    let first : c.check_body.result ≡ body_checks c.args.file.now c.args.first.table = body_same _ c.check_body.ensures.checks (omega arith) in
+    let second = c.check_number.ensures ∙ ap (λ (k : ℕ). number_fault k c.args.second.table) c.table_count.ensures in
+    then_goes _ _ _ _ first c.in_ok-check_body.was
+    (then_goes _ _ _ _ second c.in_ok-check_number.was
+    (hand_stops _ _ c.from_residual-in_err-check_kind.ensures.1 c.check_kind.ensures c.in_err-check_kind.was))
+    ∙ then_assoc _ _ _
 
 pub returns : goal.returns
-unfolding named_checks ◌then◌ fault
-returns c = let t = tables_passed c.args.file.now _ (ap counted (sym c.in-Ok.is) ∙ c.open-found.ensures) in simp (t.0, t.1, ← c.entry_at.ensures, ← c.entry_at-2.ensures, lt-leb _ _ c.if-k-first.false, lt-leb _ _ c.if-k-second.false, ← c.has_kind.ensures, c.if-not-has_kind.false, ← c.has_kind-2.ensures, c.if-not-has_kind-2.false) refl
+unfolding named_checks body_checks
+returns c =
+    let first : c.check_body.result ≡ body_checks c.args.file.now c.args.first.table = body_same _ c.check_body.ensures.checks (omega arith) in
+    let second = c.check_number.ensures ∙ ap (λ (k : ℕ). number_fault k c.args.second.table) c.table_count.ensures in
+    then_goes _ _ _ _ first c.in_ok-check_body.was
+    (then_goes _ _ _ _ second c.in_ok-check_number.was
+    (then_goes _ _ _ _ c.check_kind.ensures c.in_ok-check_kind.was c.check_kind-2.ensures))
+    ∙ then_assoc _ _ _

@@ -1,7 +1,7 @@
 -- `questions::programs::ask` meets its contract, by what opening and the search for the two tables find.
 use Rattle.std.proofs.Common.{◌∙◌, refl, sym, ap, Err, arith}
 use Rattle.tables.proofs.CheckLaws.{handed_on}
-use Rattle.questions.proofs.QuestionLaws.{not_opened, no_demand, no_supply, both_there}
+use Rattle.questions.proofs.QuestionLaws.{not_opened, no_demand, no_supply, both_found}
 use Rattle.questions.proofs.TableLaws.{there_none, there_some, search_some, search_none}
 use Rattle.questions.proofs.programs.ask.Goals as goal
 
@@ -25,5 +25,4 @@ pub returns : goal.returns
 returns c =
     let demand = search_some _ 1 _ _ (sym c.first_table.ensures ∙ there_some _ _ _ (sym c.ok_or.ensures.value ∙ c.in_ok-demand.was)) in
     let supply = search_some _ 2 _ _ (sym c.first_table-2.ensures ∙ there_some _ _ _ (sym c.ok_or-2.ensures.value ∙ c.in_ok-supply.was)) in
-    both_there _ _ c.open-found.ensures _ c.in-Ok.is _ (sym demand.0) _ (sym supply.0) demand.1 supply.1 c.start_side.ensures
-    (omega arith) c.start_side-2.ensures (omega arith) (omega arith)
+    both_found _ _ c.open-found.ensures _ c.in-Ok.is _ (sym demand.0) _ (sym supply.0) demand.1 supply.1 c.from_starts.ensures (omega arith) (omega arith) (omega arith)

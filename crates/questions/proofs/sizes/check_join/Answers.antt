@@ -1,16 +1,16 @@
 -- `questions::sizes::check_join` meets its contract. Each answer is the first check that finds a fault.
 use Prim.Native.Nat.{◌*◌}
-use mathlib.Core.Path.{refl, sym, ◌∙◌}
+use mathlib.Core.Path.{refl}
 use native.Mathlib.Omega.{arith}
 use borrow.Author.Tests.{lt-ltb, le-ltb}
 use Rattle.tables.specs.Checks.{fault}
-use Rattle.tables.proofs.CheckLaws.{handed_on, then_stops, then_goes}
+use Rattle.tables.proofs.CheckLaws.{hand_stops, then_goes}
 use Rattle.questions.specs.Sizes.{size_checks}
 use Rattle.questions.proofs.sizes.check_join.Goals as goal
 
 pub returns-in_err-check_named : goal.returns-in_err-check_named
 unfolding size_checks
-returns-in_err-check_named c = handed_on _ _ c.from_residual.ensures.1 ∙ sym c.in_err-check_named.was ∙ then_stops _ _ _ _ c.check_named.ensures c.in_err-check_named.was
+returns-in_err-check_named c = hand_stops _ _ c.from_residual.ensures.1 c.check_named.ensures c.in_err-check_named.was
 
 pub returns-then-states-gt-STATES : goal.returns-then-states-gt-STATES
 unfolding size_checks fault

@@ -6,13 +6,13 @@ use Rattle.std.proofs.Common.{Ok}
 use Rattle.tables.specs.Checks.{scan, ◌then◌}
 use Rattle.tables.specs.File.{tables_of}
 use Rattle.tables.specs.Open.{entry_fault, length_fault, body_fault, file_fault}
-use Rattle.tables.proofs.CheckLaws.{handed_on, then_left, then_right, then_stops, then_goes, then_assoc}
+use Rattle.tables.proofs.CheckLaws.{handed_on, then_left, then_right, then_stops, then_goes, hand_stops, then_assoc}
 use Rattle.tables.proofs.AcceptedLaws.{header_passed, laid}
 use Rattle.tables.proofs.checks.check_file.Goals as goal
 
 pub returns-in_err-check_header : goal.returns-in_err-check_header
 unfolding file_fault
-returns-in_err-check_header c = handed_on _ _ c.from_residual.ensures.1 ∙ sym c.in_err-check_header.was ∙ then_stops _ _ _ _ c.check_header.ensures c.in_err-check_header.was
+returns-in_err-check_header c = hand_stops _ _ c.from_residual.ensures.1 c.check_header.ensures c.in_err-check_header.was
 
 pub check_contents-requires : goal.check_contents-requires
 check_contents-requires c = let header = header_passed c.args.file.now (sym c.check_header.ensures ∙ c.in_ok-check_header.was) in

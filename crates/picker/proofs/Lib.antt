@@ -1,0 +1,3 @@
+pub mod PickLaws
+pub mod DemandLaws
+pub mod ExampleLaws

@@ -1,0 +1,3 @@
+pub mod Pick
+pub mod Demands
+pub mod Examples
