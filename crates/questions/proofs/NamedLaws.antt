@@ -5,12 +5,12 @@ use mathlib.Core.Bool.{Bool, true, false, not}
 use mathlib.Core.List.{List}
 use borrow.Author.Tests.{leb-false, lt-leb, eq-eqb, eqb-true}
 use Rattle.std.proofs.Common.{Ok}
-use Rattle.tables.specs.Checks.{Checked}
+use Rattle.tables.specs.Checks.{Checked, ◌then◌}
 use Rattle.tables.specs.Kinds.{code_of}
 use Rattle.tables.specs.File.{tables_of, entry_of}
 use Rattle.tables.specs.Open.{file_fault}
 use Rattle.tables.specs.Body.{number_fault, body_checks}
-use Rattle.tables.proofs.CheckLaws.{fault_passed, passed_fault, then_left, then_right, then_both}
+use Rattle.tables.proofs.CheckLaws.{fault_passed, passed_fault, then_left, then_right, then_both, then_goes, then_assoc}
 use Rattle.questions.specs.declared.named.Named.{Named}
 use Rattle.questions.specs.Named.{kind_fault, table_checks, named_checks}
 
@@ -59,6 +59,15 @@ module _ (s : List ℕ) (a b : Named) where
   second_there e =
       let rest = then_right _ _ (then_right _ _ e) in
       there_from s b (then_left _ _ e) (then_left _ _ rest) (then_right _ _ (then_right _ _ rest))
+
+  -- where both numbers are below k, the kinds are left; by what a call looked at
+  pub kinds_left : {x y d : Checked} {i k j : ℕ} → x ≡ body_checks s i → x ≡ Ok tt → y ≡ number_fault k j → y ≡ Ok tt
+      → i ≡ a.table → k ≡ tables_of s → j ≡ b.table → d ≡ kind_fault s a then kind_fault s b → d ≡ named_checks s a b
+  unfolding named_checks body_checks
+  kinds_left f passed g there first count second e =
+      then_goes _ _ _ _ (body_same s f first) passed
+      (then_goes _ _ _ _ (g ∙ (λ n. number_fault (count n) (second n))) there e)
+      ∙ then_assoc _ _ _
 
   pub both_there : IsThere s a → IsThere s b → named_checks s a b ≡ Ok tt
   unfolding named_checks

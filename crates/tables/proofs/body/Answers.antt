@@ -1,6 +1,8 @@
 -- `tables::body` meets its contract. By what the checks find: a fault, or a body which the entry tells of, and which lies in an accepted file.
-use mathlib.Core.Path.{refl, sym, ◌∙◌}
+use mathlib.Core.Path.{◌≡◌, refl, sym, ap, ◌∙◌}
 use native.Mathlib.Omega.{arith}
+use Rattle.std.proofs.Common.{ℕ}
+use Rattle.tables.specs.File.{entry_of}
 use Rattle.tables.specs.Body.{body_span}
 use Rattle.tables.proofs.FileLaws.{span_within}
 use Rattle.tables.proofs.BodyLaws.{body_within, found_fault, found_none}
@@ -16,4 +18,5 @@ pub returns : goal.returns
 unfolding body_span
 returns c =
     let none = sym c.check_body.ensures.checks ∙ found_none _ (sym c.is_err.ensures.value ∙ c.if-is_err.false) in
-    rw (none, ← c.entry_at.ensures) (rw (span_within c.args.file.now c.entry_at.result (rw c.entry_at.ensures (body_within _ _ none))) at c.entry_body.ensures)
+    let entry : c.entry_at.result ≡ entry_of c.args.file.now c.args.table = c.entry_at.ensures ∙ ap (λ (i : ℕ). entry_of c.args.file.now i) (omega arith) in
+    rw (none, ← entry) (rw (span_within c.args.file.now c.entry_at.result (rw entry (body_within _ _ none))) at c.entry_body.ensures)

@@ -1,9 +1,10 @@
 -- `tables::checks::check_header` meets its contract. Each return is the first fault that applies.
-use mathlib.Core.Path.{sym, ◌∙◌}
+use mathlib.Core.Path.{◌≡◌, sym, ap, ◌∙◌}
 use native.Mathlib.Omega.{arith}
 use borrow.Author.Tests.{lt-ltb, le-ltb}
 use Rattle.tables.specs.Checks.{fault, ◌then◌}
-use Rattle.tables.specs.Open.{header_fault}
+use Rattle.std.proofs.Common.{ℕ}
+use Rattle.tables.specs.Open.{outside, header_fault}
 use Rattle.tables.proofs.AcceptedLaws.{outside_high}
 use Rattle.tables.proofs.checks.check_header.Goals as goal
 
@@ -13,7 +14,9 @@ returns-then-len-lt2 c = simp (lt-ltb _ _ c.if-len-lt2.true, c.fault.ensures)
 
 pub returns-then-is_outside : goal.returns-then-is_outside
 unfolding header_fault fault ◌then◌
-returns-then-is_outside c = simp (le-ltb _ _ c.if-len-lt2.false, ← c.table_count-k.ensures, ← c.is_outside.ensures, c.if-is_outside.true, c.fault-then-is_outside.ensures)
+returns-then-is_outside c =
+    let tested : c.is_outside.result ≡ outside 1 16 c.table_count-k.result = c.is_outside.ensures ∙ ap (λ (high : ℕ). outside 1 high c.table_count-k.result) (omega arith) in
+    simp (le-ltb _ _ c.if-len-lt2.false, ← c.table_count-k.ensures, ← tested, c.if-is_outside.true, c.fault-then-is_outside.ensures)
 
 pub overflow_mul-k : goal.overflow_mul-k
 overflow_mul-k c = omega (arith, outside_high _ _ _ (sym c.is_outside.ensures ∙ c.if-is_outside.false))

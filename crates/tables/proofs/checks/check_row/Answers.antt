@@ -1,8 +1,10 @@
 -- `tables::checks::check_row` meets its contract. Each return is the first fault that applies.
 use borrow.Author.Tests.{le-leb, lt-leb, eq-eqb, ne_eqb}
-use mathlib.Core.Path.{◌≡◌}
+use mathlib.Core.Path.{◌≡◌, ap, ◌∙◌}
 use native.Mathlib.Omega.{arith}
-use Rattle.tables.specs.Checks.{fault, ◌then◌}
+use Rattle.std.proofs.Common.{ℕ, ◌+◌, ◌*◌, Err}
+use Rattle.tables.specs.declared.Reason.TheVariants.{Target}
+use Rattle.tables.specs.Checks.{refuse, fault, ◌then◌}
 use Rattle.tables.specs.Open.{row_fault}
 use Rattle.tables.proofs.checks.check_row.Goals as goal
 
@@ -16,7 +18,9 @@ returns-then-n-row c = simp (← c.row_at-row.ensures, ne_eqb _ _ c.if-row-eq-FI
 
 pub returns-then-n-row-2 : goal.returns-then-n-row-2
 unfolding row_fault fault ◌then◌
-returns-then-n-row-2 c = simp (← c.row_at-row.ensures, ne_eqb _ _ c.if-row-eq-FIN.false, lt-leb _ _ c.if-n-row.false, le-leb _ _ c.if-n-row-2.true, c.fault-then-n-row-2.ensures)
+returns-then-n-row-2 c =
+    let found : c.fault-then-n-row-2.result ≡ Err (refuse Target (c.args.start + 4 * c.args.j + 1)) = c.fault-then-n-row-2.ensures ∙ ap (λ (place : ℕ). Err (refuse Target place)) (omega arith) in
+    simp (← c.row_at-row.ensures, ne_eqb _ _ c.if-row-eq-FIN.false, lt-leb _ _ c.if-n-row.false, le-leb _ _ c.if-n-row-2.true, found)
 
 pub returns-then-not-rises_to : goal.returns-then-not-rises_to
 unfolding row_fault fault ◌then◌
