@@ -1,10 +1,13 @@
 //! Decide, beside an earlier Decide, a plain engine and a fast one: holds their answers equal on random files, then times them on tables of many kinds.
 //!
-//! `bench [COUNT]` compares on COUNT files, 10,000 where none is given, and measures. `bench --stack` says how much stack Decide needs.
+//! `bench [COUNT]` compares on COUNT files, 10,000 where none is given, and measures. `bench --stack` says how much stack Decide and Run need.
 
 mod compare;
 mod drafts;
 mod engines;
+#[allow(dead_code)]
+#[path = "../tests/compare/exports.rs"]
+mod exports;
 mod fast;
 mod file;
 mod measure;
@@ -14,15 +17,16 @@ mod report;
 mod stack;
 mod tables;
 
+use stack::Call;
 use std::process::ExitCode;
 
 const FILES: usize = 10_000;
 
 fn stack() {
     let cases = tables::cases();
-    println!("this: {} bytes of stack at most", stack::most(false, &cases));
+    println!("this: {} bytes of stack at most, and {} by Run", stack::most(Call::Decide, &cases), stack::most(Call::Run, &cases));
     if cfg!(beside) {
-        println!("before: {} bytes of stack at most", stack::most(true, &cases));
+        println!("before: {} bytes of stack at most", stack::most(Call::DecideBefore, &cases));
     }
 }
 

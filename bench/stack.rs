@@ -1,23 +1,36 @@
-//! How much stack Decide needs: it is called on a stack that was filled with a pattern, and the deepest byte that no longer has it is looked for.
+//! How much stack Decide and Run need: each is called on a stack that was filled with a pattern, and the deepest byte that no longer has it is looked for.
 
-use crate::engines::{call, Marks, Question, Verdict, MODES};
+use crate::engines::{call, call_before, call_run, Marks, Question, Steps, MODES};
 use crate::tables::Case;
 use std::time::{Duration, Instant};
 
 const SIZE: usize = 8 << 20;
 const PATTERN: u8 = 0xA5;
 
-/// What is handed to the other stack, and what comes back.
+#[derive(Clone, Copy)]
+pub enum Call {
+    /// The proved Decide of this tree, and of an earlier commit.
+    Decide,
+    DecideBefore,
+    Run,
+}
+
+/// What is handed to the other stack, and whether the call was carried out.
 struct StackCall<'a> {
-    is_before: bool,
+    call: Call,
     asked: &'a Question,
     mode: usize,
     marks: &'a mut Marks,
-    found: Option<Verdict>,
+    steps: &'a mut Steps,
+    is_done: bool,
 }
 
 extern "C" fn run(made: &mut StackCall) {
-    made.found = call(made.is_before, made.asked, made.mode, made.marks);
+    made.is_done = match made.call {
+        Call::Decide => call(made.asked, made.mode, made.marks).is_some(),
+        Call::DecideBefore => call_before(made.asked, made.mode, made.marks).is_some(),
+        Call::Run => call_run(made.asked, made.mode, made.marks, made.steps),
+    };
 }
 
 /// Calls `run` with the stack pointer at `top`.
@@ -48,10 +61,10 @@ fn depth(memory: &mut [u8], made: &mut StackCall) -> usize {
     top as usize - memory.as_ptr() as usize - untouched
 }
 
-/// The most that a proved Decide needs over the tables, in both modes. One that is slow on a table of the series is spared the larger ones.
-pub fn most(is_before: bool, cases: &[Case]) -> usize {
+/// The most that a call needs over the tables, in both modes. One that is slow on a table of the series is spared the larger ones.
+pub fn most(call: Call, cases: &[Case]) -> usize {
     let mut memory = vec![0; SIZE];
-    let mut marks = [0; 4096];
+    let (mut marks, mut steps) = ([0; 4096], [0; 8192]);
     let mut is_slow = false;
     let mut most = 0;
     for case in cases.iter() {
@@ -60,8 +73,9 @@ pub fn most(is_before: bool, cases: &[Case]) -> usize {
                 continue;
             }
             let start = Instant::now();
-            let made = &mut StackCall { is_before, asked: &case.asked, mode, marks: &mut marks, found: None };
+            let made = &mut StackCall { call, asked: &case.asked, mode, marks: &mut marks, steps: &mut steps, is_done: false };
             most = most.max(depth(&mut memory, made));
+            assert!(made.is_done, "{} is turned back", case.name);
             is_slow |= case.in_series && Duration::from_millis(150) < start.elapsed();
         }
     }

@@ -48,17 +48,17 @@ pub struct Explanation {
 }
 
 /// What was lent, for the call to write into.
-struct Lent {
-    first: Vec<u16>,
-    second: Vec<u16>,
+pub struct Lent {
+    pub first: Vec<u16>,
+    pub second: Vec<u16>,
 }
 
 /// What a call that is carried out returns.
 #[derive(Default)]
-struct Returned {
-    values: Vec<usize>,
+pub struct Returned {
+    pub values: Vec<usize>,
     part: Vec<u8>,
-    decisions: Vec<Decision>,
+    pub decisions: Vec<Decision>,
     graph: Option<Graph>,
     explanation: Option<Explanation>,
     picked: Option<Vec<u8>>,
@@ -181,7 +181,8 @@ fn lend(question: &Question) -> Lent {
     }
 }
 
-fn call(question: &Question, file: &[u8], lent: &mut Lent) -> Result<Returned, Refusal> {
+/// Makes a call of the checker here; one that is turned back leaves what was lent.
+pub fn call(question: &Question, file: &[u8], lent: &mut Lent) -> Result<Returned, Refusal> {
     let opened = open(file);
     match question.operation {
         Operation::Open => Ok(returned(vec![opened?.len()])),

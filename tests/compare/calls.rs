@@ -12,7 +12,7 @@ use crate::rules::{combined_moves, explain, join, marks, Mode, Pair, Tables, FIN
 use crate::sets::{any_set, common_set, standing_set};
 
 /// The longest slice that a question can ask for.
-const LONGEST_SLICE: usize = 65_535;
+pub const LONGEST_SLICE: usize = 65_535;
 
 /// The faults that a question can have.
 #[derive(Clone, Copy)]

@@ -102,18 +102,25 @@ const ROTATION: [Kind; 33] = [
 
 /// The case with this number. The same number always gives the same case.
 pub fn case(number: usize) -> Case {
-    let length: usize = ROTATION.iter().map(|kind| kind.often).sum();
-    let mut place = number % length;
-    let mut which = 0;
-    while place >= ROTATION[which].often {
-        place -= ROTATION[which].often;
-        which += 1;
-    }
+    let often: Vec<usize> = ROTATION.iter().map(|kind| kind.often).collect();
+    let (which, turn) = in_rotation(&often, number);
     let kind = &ROTATION[which];
-    let turn = number / length * kind.often + place;
     let mut random = Random::new(number as u64);
     let made = (kind.make)(&mut random, turn);
     Case { kind: kind.name, program: made.program, input: made.input, pieces: made.pieces }
+}
+
+/// Which kind a number has in a rotation of kinds that stand there so often, and how
+/// many lower numbers have it.
+pub fn in_rotation(often: &[usize], number: usize) -> (usize, usize) {
+    let length: usize = often.iter().sum();
+    let mut place = number % length;
+    let mut which = 0;
+    while place >= often[which] {
+        place -= often[which];
+        which += 1;
+    }
+    (which, number / length * often[which] + place)
 }
 
 fn slots_random(random: &mut Random, _: usize) -> Made {

@@ -5,6 +5,11 @@
 //! Called as `compare SLOTS AUT CALLS_TEST CASES COUNT`: the paths of the three
 //! programs, the folder of the case files, and how many random cases to run. The
 //! same count always gives the same cases. `tests/run` builds and calls it.
+//!
+//! Called as `compare --exports [--alone] [CASES] COUNT`, it compares the exported
+//! functions, with which it is linked, on the questions of the case files, where their
+//! folder is named, and on so many calls made at random. With `--alone` each slice is
+//! lent in memory of its own, for valgrind.
 
 mod answers;
 mod asked;
@@ -14,9 +19,16 @@ mod calls;
 mod cases;
 mod drafts;
 mod due;
+mod export_call;
+mod export_cases;
+mod export_run;
+mod export_tally;
+mod export_written;
+mod exports;
 mod faults;
 mod file;
 mod graph;
+mod lent;
 mod panel;
 mod pick;
 mod programs;
@@ -29,15 +41,16 @@ mod standing;
 mod tally;
 mod wide;
 mod words;
+mod workers;
 mod written;
 
 use batches::{Batch, Programs};
 use cases::Case;
+use std::ops::Range;
 use std::path::{Path, PathBuf};
 use std::process::ExitCode;
-use std::sync::atomic::{AtomicUsize, Ordering};
-use std::thread;
 use tally::Tally;
+use workers::shared;
 use written::Written;
 
 /// From so many random cases on, nothing that `Tally::missing` looks for may be
@@ -45,7 +58,6 @@ use written::Written;
 const COVERING_COUNT: usize = 1_000;
 /// How many cases a worker takes at a time.
 const BATCH: usize = 390;
-const WORKERS: usize = 2;
 const SHOWN_DIFFERENCES: usize = 10;
 
 struct Arguments {
@@ -62,40 +74,70 @@ pub struct Difference {
     case: Case,
 }
 
+/// How many cases passed, and how many failed or never came.
+pub struct Counts {
+    passed: usize,
+    failed: usize,
+}
+
+/// What came of comparing: an error where the cases cannot be read, nothing where the
+/// arguments are not those of a call.
+type Compared = Option<Result<Counts, String>>;
+
 fn main() -> ExitCode {
-    let Some(arguments) = read_arguments() else {
-        eprintln!("called as: compare SLOTS AUT CALLS_TEST CASES COUNT");
-        return ExitCode::from(2);
+    let words: Vec<String> = std::env::args().skip(1).collect();
+    let compared = match words.split_first() {
+        Some((first, rest)) if first == "--exports" => export_run::compare_exports(rest),
+        _ => compare_programs(&words),
     };
-    let written = match written::read_folder(&arguments.folder) {
-        Ok(written) => written,
-        Err(error) => {
-            println!("{error}\n0 passed, 1 failed");
-            return ExitCode::from(1);
+    let counts = match compared {
+        None => {
+            eprintln!("called as: compare SLOTS AUT CALLS_TEST CASES COUNT");
+            eprintln!("or as: compare --exports [--alone] [CASES] COUNT");
+            return ExitCode::from(2);
+        }
+        Some(Ok(counts)) => counts,
+        Some(Err(error)) => {
+            println!("{error}");
+            Counts { passed: 0, failed: 1 }
         }
     };
-    let (tally, differences) = run_all(&arguments, &written);
-    tally.print();
-    show(&differences);
-    let mut failed = differences.len();
-    if arguments.count >= COVERING_COUNT {
-        for sentence in tally.missing() {
-            println!("{sentence}");
-            failed += 1;
-        }
-    }
-    println!("{} cases of case files, {} made at random", written.len(), arguments.count);
-    println!("{} passed, {failed} failed", written.len() + arguments.count - differences.len());
-    if failed > 0 {
+    println!("{} passed, {} failed", counts.passed, counts.failed);
+    if counts.failed > 0 {
         ExitCode::from(1)
     } else {
         ExitCode::SUCCESS
     }
 }
 
-fn read_arguments() -> Option<Arguments> {
-    let words: Vec<String> = std::env::args().skip(1).collect();
-    let [slots, aut, calls, folder, count] = &words[..] else {
+fn compare_programs(words: &[String]) -> Compared {
+    let arguments = read_arguments(words)?;
+    let written = match written::read_folder(&arguments.folder) {
+        Ok(written) => written,
+        Err(error) => return Some(Err(error)),
+    };
+    let (tally, differences) = run_all(&arguments, &written);
+    tally.print();
+    show(&differences);
+    let mut failed = differences.len();
+    if arguments.count >= COVERING_COUNT {
+        failed += print_all(tally.missing());
+    }
+    println!("{} cases of case files, {} made at random", written.len(), arguments.count);
+    let passed = written.len() + arguments.count - differences.len();
+    Some(Ok(Counts { passed, failed }))
+}
+
+/// Prints sentences, and says how many.
+fn print_all(sentences: Vec<String>) -> usize {
+    for sentence in &sentences {
+        println!("{sentence}");
+    }
+    sentences.len()
+}
+
+fn read_arguments(words: &[String]) -> Option<Arguments> {
+    let [slots, aut, calls, folder, count] = words else {
         return None;
     };
     Some(Arguments {
@@ -105,48 +147,37 @@ fn read_arguments() -> Option<Arguments> {
     })
 }
 
-/// Runs all cases in two workers, those of the case files first; the differences
-/// come in the cases' order.
+/// Runs all cases, those of the case files first; the differences come in the cases'
+/// order.
 fn run_all(arguments: &Arguments, written: &[Written]) -> (Tally, Vec<Difference>) {
-    let next = AtomicUsize::new(0);
     let mut tally = Tally::new();
     let mut differences = Vec::new();
-    thread::scope(|scope| {
-        let workers: Vec<_> =
-            (0..WORKERS).map(|_| scope.spawn(|| work(arguments, written, &next))).collect();
-        for worker in workers {
-            let (part, found) = worker.join().expect("a worker ends");
-            tally.add(&part);
-            differences.extend(found);
-        }
-    });
+    let all = written.len() + arguments.count;
+    let start = || (Tally::new(), Vec::new());
+    for (part, found) in shared(all, BATCH, start, |made, numbers| {
+        work(arguments, written, made, numbers);
+    }) {
+        tally.add(&part);
+        differences.extend(found);
+    }
     differences.sort_by_key(|difference| difference.number);
     (tally, differences)
 }
 
-/// Takes one batch of cases after the other until all are taken.
+/// Runs one batch of cases.
 fn work(
     arguments: &Arguments,
     written: &[Written],
-    next: &AtomicUsize,
-) -> (Tally, Vec<Difference>) {
-    let mut tally = Tally::new();
-    let mut differences = Vec::new();
-    let all = written.len() + arguments.count;
-    loop {
-        let first = next.fetch_add(BATCH, Ordering::Relaxed);
-        if first >= all {
-            return (tally, differences);
-        }
-        let numbers = first..(first + BATCH).min(all);
-        let batch: Vec<(usize, Case)> =
-            numbers.map(|number| (number, case_at(written, number))).collect();
-        let outcomes = Batch::new(&arguments.programs, &batch).run(written, &mut tally);
-        for ((number, case), outcome) in batch.into_iter().zip(outcomes) {
-            if let Err(reason) = outcome {
-                let name = name_of(written, number, &case);
-                differences.push(Difference { number, name, reason, case });
-            }
+    (tally, differences): &mut (Tally, Vec<Difference>),
+    numbers: Range<usize>,
+) {
+    let batch: Vec<(usize, Case)> =
+        numbers.map(|number| (number, case_at(written, number))).collect();
+    let outcomes = Batch::new(&arguments.programs, &batch).run(written, tally);
+    for ((number, case), outcome) in batch.into_iter().zip(outcomes) {
+        if let Err(reason) = outcome {
+            let name = name_of(written, number, &case);
+            differences.push(Difference { number, name, reason, case });
         }
     }
 }

@@ -290,7 +290,7 @@ fn never<'a>(names: &[&'a str], counts: &[usize]) -> Vec<&'a str> {
 }
 
 /// Counts with their names.
-fn listed(names: &[&str], counts: &[usize]) -> String {
+pub fn listed(names: &[&str], counts: &[usize]) -> String {
     let words: Vec<String> =
         names.iter().zip(counts).map(|(name, count)| format!("{count} {name}")).collect();
     words.join(", ")

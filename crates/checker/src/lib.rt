@@ -148,7 +148,7 @@ pub fn explain(
         return Err(Refusal::new(Reason::NoRoom, 0));
     }
     let mode = mode_of(mode);
-    let mut made = [0u16; Limits::STATES * Limits::STATES];
+    let mut made = [0u16; Limits::PAIRS];
     marks::write(sides, mode, &mut made);
     let entries = explanations::write(sides, mode, loaded.start, &made, &mut []);
     if triples.len() < entries {

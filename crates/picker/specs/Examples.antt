@@ -1,16 +1,8 @@
 -- Worked examples, by hand: what is listed for two files.
 use Rattle.std.specs.Prelude.{ℕ, ◌≡◌}
 use mathlib.Core.List.{List, [], ◌∷◌, ◌++◌}
+use Rattle.tables.specs.FileE.{file_e}
 use Rattle.picker.specs.Pick.{picked}
-
--- document 01's E: its demand is table 0, its supply table 1
-unfoldable pub file_e : List ℕ
-file_e =
-    (2 ∷ 0 ∷ [])
-    ++ (1 ∷ 4 ∷ 4 ∷ 0 ∷ 14 ∷ 0 ∷ [])
-    ++ (2 ∷ 3 ∷ 2 ∷ 0 ∷ 30 ∷ 0 ∷ [])
-    ++ (1 ∷ 2 ∷ 1 ∷ 0 ∷ 1 ∷ 3 ∷ 2 ∷ 0 ∷ 2 ∷ 0 ∷ 1 ∷ 0 ∷ 3 ∷ 0 ∷ 2 ∷ 0 ∷ [])
-    ++ (1 ∷ 2 ∷ 3 ∷ 0 ∷ 2 ∷ 0 ∷ 1 ∷ 0 ∷ [])
 
 -- partial mode lists what full mode does not: one of the choices leads to a request for {1} that supply state 2 leaves unmet, and with {1} standing it does not
 unfoldable pub ExampleE : Type 0

@@ -21,7 +21,7 @@ use tables::{Kind, Reason, Refusal, table_count};
 fn gets_yes(file: &[u8], question: Question, mode: usize) -> bool
     ensures { result ≡ gets_yes file.now question mode }
 {
-    let mut marks = [0u16; Limits::STATES * Limits::STATES];
+    let mut marks = [0u16; Limits::PAIRS];
     match decide(file, question, mode, &mut marks) {
         Ok(verdict) => verdict.yes,
         Err(_) => false,

@@ -12,10 +12,8 @@ use rules::{Limits, Mode};
 use tables::{Refusal, table_count};
 use text::Writer;
 
-// Entries for the marks of the most pairs there can be, and for the longest run.
-const PAIRS: usize = Limits::STATES * Limits::STATES;
-
-pub(crate) const STEP_ENTRIES: usize = 2 * PAIRS;
+// Entries for the longest run.
+pub(crate) const STEP_ENTRIES: usize = 2 * Limits::PAIRS;
 
 // What a mode finds: the verdict, and the steps that show a no.
 #[derive(Clone, Copy)]
@@ -41,7 +39,7 @@ fn find<'a>(file: &[u8], question: Question, mode: Mode, steps: &'a mut [u16]) -
     ensures steps { result.steps.now ≡ steps_at mode file.now question }
 {
     let number = number_of(mode);
-    let mut marks = [0u16; PAIRS];
+    let mut marks = [0u16; Limits::PAIRS];
     let verdict = checker::decide(file, question, number, &mut marks).unwrap();
     let count = checker::run(file, question, number, &mut marks, steps).unwrap();
     Found {

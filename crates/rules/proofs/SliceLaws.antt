@@ -104,3 +104,9 @@ written_next {A} f {c} {before} {after} at next count out {piece} e same long he
     let place : next ≡ at + length (f c) = omega arith in
     rw (place, same, piece_written at count (f c) out (sym long) room)
     (sym (write_at-append at (f c) (flat_map f after) out) ∙ ap (λ (l : List A). write_at at (flat_map f l) out) (sym e) ∙ h)
+
+-- once none is left, all are written
+pub written_all : {A : Type 0} (f : A → List ℕ) {left : List A} (at : ℕ) (whole out old : List ℕ) → left ≡ [] → length whole ≤ length old
+    → write_at at (flat_map f left) out ≡ write_at 0 whole old → out ≡ overwrite whole old
+unfolding flat_map write_at
+written_all {A} f at whole out old e room h = ap (λ (l : List A). write_at at (flat_map f l) out) (sym e) ∙ h ∙ write_at-overwrite whole old room

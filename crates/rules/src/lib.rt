@@ -17,6 +17,9 @@ impl Limits {
 
     pub const STATES: usize = 64;
 
+    // Pairs of states of two tables.
+    pub const PAIRS: usize = Self::STATES * Self::STATES;
+
     pub const ROWS: usize = 512;
 
     pub const TABLES: usize = 16;

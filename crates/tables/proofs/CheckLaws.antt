@@ -55,6 +55,14 @@ numbered NoMode = refl
 numbered TooManyStates = refl
 numbered TooManyRows = refl
 
+-- no reason has the number 0
+pub numbered_from_one : (r : Reason) → number_of r ≡ 0 → ⊥
+unfolding reasons
+numbered_from_one r e =
+    let short : Short ≡ r = ap (λ (n : ℕ). get_or reasons n Short) (sym e) ∙ numbered r in
+    let one : number_of Short ≡ number_of r = ap number_of short in
+    omega arith
+
 -- what is answered tells the refusal
 pub turned_by : (r q : Refusal) → turned_back r ≡ turned_back q → r ≡ q
 turned_by r q e =

@@ -7,3 +7,4 @@ pub mod Open
 pub mod Body
 pub mod Accepted
 pub mod Tables
+pub mod FileE

@@ -1,0 +1,5 @@
+pub mod ByteLaws
+pub mod RoomLaws
+pub mod LentLaws
+pub mod CallLaws
+pub mod ExampleLaws
