@@ -47,7 +47,7 @@ returned a report = by_report report (number_of NoRoom) a.number
 unfoldable pub report_of : Answer → List ℕ
 report_of a = cond (eqb a.number 0) (take 3 (a.values ++ 0 ∷ 0 ∷ [])) (a.place ∷ 0 ∷ 0 ∷ [])
 
--- the report afterwards; "unchanged, as are report bytes past the 24th"
+-- the report afterwards; "An odd last byte is unchanged, as are report bytes past the 24th."
 unfoldable pub reported : Answer → List ℕ → List ℕ
 reported a report = by_report report report (overwrite (number_bytes (report_of a)) report)
 

@@ -1,7 +1,8 @@
 // "The tool calls open, decide and run as C functions on numbers and byte slices" (document 02, L7): include/slots.h declares them. A report of three numbers
 // stands for what the calls of `tables` and `checker` return, and marks and steps are two bytes each, low byte first. Nothing is asked of the caller but what
 // the header says of its memory. A function has as many parameters as L7 lists: "numbers passed and returned are unsigned and 64 bits wide, the standing set
-// 16". Relies on `tables` for Open, on `checker` for Decide and Run, by what they promise alone, and on `rules` for the limits.
+// 16". Relies on `tables` for Open, on `checker` for Decide and Run, by what they promise alone, on `questions` for what a question is about, and on `rules`
+// for the limits.
 #![tactic(auto)]
 
 ghost use Rattle.std.specs.Prelude.{◌≡◌, ◌≢◌, ◌≤◌, length};
