@@ -1,6 +1,7 @@
 //! Decide, beside an earlier Decide, a plain engine and a fast one: holds their answers equal on random files, then times them on tables of many kinds.
 //!
-//! `bench [COUNT]` compares on COUNT files, 10,000 where none is given, and measures. `bench --stack` says how much stack Decide and Run need.
+//! `bench [COUNT]` compares on COUNT files, 10,000 where none is given, and measures. `bench --reach` measures Reach beside Decide. `bench --stack` says how
+//! much stack Decide, Run and Reach need.
 
 mod compare;
 mod drafts;
@@ -13,6 +14,7 @@ mod file;
 mod measure;
 mod plain;
 mod random;
+mod reach;
 mod report;
 mod stack;
 mod tables;
@@ -24,7 +26,8 @@ const FILES: usize = 10_000;
 
 fn stack() {
     let cases = tables::cases();
-    println!("this: {} bytes of stack at most, and {} by Run", stack::most(Call::Decide, &cases), stack::most(Call::Run, &cases));
+    let most = [Call::Decide, Call::Run, Call::Reach].map(|call| stack::most(call, &cases));
+    println!("this: {} bytes of stack at most, {} by Run, and {} by Reach", most[0], most[1], most[2]);
     if cfg!(beside) {
         println!("before: {} bytes of stack at most", stack::most(Call::DecideBefore, &cases));
     }
@@ -37,22 +40,29 @@ fn compare_and_measure(files: usize) -> Result<(), String> {
     measure::measure(&tables::cases(), report::show)
 }
 
-fn main() -> ExitCode {
-    let word = std::env::args().nth(1);
-    if word.as_deref() == Some("--stack") {
-        stack();
-        return ExitCode::SUCCESS;
-    }
-    let files = word.map_or(Some(FILES), |word| word.parse().ok());
-    let Some(files) = files else {
-        eprintln!("bench [COUNT] | bench --stack");
-        return ExitCode::FAILURE;
-    };
-    match compare_and_measure(files) {
+fn ended(result: Result<(), String>) -> ExitCode {
+    match result {
         Ok(()) => ExitCode::SUCCESS,
         Err(fault) => {
             eprintln!("{fault}");
             ExitCode::FAILURE
         }
     }
+}
+
+fn main() -> ExitCode {
+    let word = std::env::args().nth(1);
+    if word.as_deref() == Some("--stack") {
+        stack();
+        return ExitCode::SUCCESS;
+    }
+    if word.as_deref() == Some("--reach") {
+        return ended(reach::measure());
+    }
+    let files = word.map_or(Some(FILES), |word| word.parse().ok());
+    let Some(files) = files else {
+        eprintln!("bench [COUNT] | bench --reach | bench --stack");
+        return ExitCode::FAILURE;
+    };
+    ended(compare_and_measure(files))
 }

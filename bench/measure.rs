@@ -5,10 +5,10 @@ use crate::tables::Case;
 use std::time::{Duration, Instant};
 
 /// A batch takes about this long, and the rounds for two tables, in one mode, this long together.
-const BATCH: Duration = Duration::from_micros(300);
-const TABLE: Duration = Duration::from_millis(1500);
-const MOST_ROUNDS: usize = 401;
-const LEAST_ROUNDS: usize = 5;
+pub const BATCH: Duration = Duration::from_micros(300);
+pub const TABLE: Duration = Duration::from_millis(1500);
+pub const MOST_ROUNDS: usize = 401;
+pub const LEAST_ROUNDS: usize = 5;
 
 /// An engine that takes longer for a call is left out of the larger tables of the series.
 const SLOW: Duration = Duration::from_millis(150);
@@ -89,7 +89,7 @@ impl Bench {
     }
 }
 
-fn median(mut times: Vec<f64>) -> f64 {
+pub fn median(mut times: Vec<f64>) -> f64 {
     times.sort_by(f64::total_cmp);
     times[times.len() / 2]
 }

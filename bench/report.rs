@@ -9,7 +9,7 @@ pub fn head() {
 }
 
 /// Two or three digits that count.
-fn digits(x: f64) -> String {
+pub fn digits(x: f64) -> String {
     match x {
         x if x < 0.0995 => format!("{x:.3}"),
         x if x < 9.995 => format!("{x:.2}"),
@@ -18,7 +18,7 @@ fn digits(x: f64) -> String {
     }
 }
 
-fn time(seconds: f64) -> String {
+pub fn time(seconds: f64) -> String {
     match seconds {
         s if s < 0.999_5e-3 => format!("{} µs", digits(s * 1e6)),
         s if s < 0.999_5 => format!("{} ms", digits(s * 1e3)),

@@ -1,6 +1,7 @@
-//! How much stack Decide and Run need: each is called on a stack that was filled with a pattern, and the deepest byte that no longer has it is looked for.
+//! How much stack Decide, Run and Reach need: each is called on a stack that was filled with a pattern, and the deepest byte that no longer has it is looked for.
 
 use crate::engines::{call, call_before, call_run, Marks, Question, Steps, MODES};
+use crate::reach;
 use crate::tables::Case;
 use std::time::{Duration, Instant};
 
@@ -13,6 +14,7 @@ pub enum Call {
     Decide,
     DecideBefore,
     Run,
+    Reach,
 }
 
 /// What is handed to the other stack, and whether the call was carried out.
@@ -30,6 +32,7 @@ extern "C" fn run(made: &mut StackCall) {
         Call::Decide => call(made.asked, made.mode, made.marks).is_some(),
         Call::DecideBefore => call_before(made.asked, made.mode, made.marks).is_some(),
         Call::Run => call_run(made.asked, made.mode, made.marks, made.steps),
+        Call::Reach => reach::is_done(made.asked),
     };
 }
 

@@ -155,3 +155,60 @@ fn beside_wide(a: usize, b: usize, random: &mut Random) -> Case {
     let asked = question(table(DEMAND, a + 2, demand), cycle(SUPPLY, b, 8));
     Case { name, in_series: true, asked }
 }
+
+/// The tables on which Reach is measured.
+pub fn reach_cases() -> Vec<Case> {
+    let random = &mut Random::new(2);
+    let mut all = vec![case("64 × 64, 4 resources, the start in cycles of 3 and 5", beside_cycle(random, DEMAND, 3), beside_cycle(random, SUPPLY, 5))];
+    all.push(case("64 × 64, 4 resources, the start on the way to FIN", to_fin(random, DEMAND, 4), to_fin(random, SUPPLY, 4)));
+    for each in [3, 8] {
+        let name = format!("64 × 64, {each} rows a state, all reached");
+        all.push(case(&name, onward(random, DEMAND, each), onward(random, SUPPLY, each)));
+    }
+    all.push(case("cycles of 63 and 62, nothing requested", turns(DEMAND, 63), turns(SUPPLY, 62)));
+    all.push(wide(random));
+    all.push(case("cycles of 63 and 62", cycle(DEMAND, 63, 1), cycle(SUPPLY, 62, 1)));
+    all.push(case("64 × 64, 4 resources", spread(random, DEMAND, 64, 512, 4), spread(random, SUPPLY, 64, 512, 4)));
+    all
+}
+
+/// Random rows for 64 states, 512 in all, in place of which the states below `apart` have other rows.
+fn beside(random: &mut Random, kind: u8, apart: usize, rows: Vec<Row>) -> Table {
+    let mut made = spread(random, kind, 64, 512, 4);
+    made.rows.retain(|row| apart <= row.from as usize);
+    made.rows.extend(rows);
+    table(kind, 64, made.rows)
+}
+
+/// A cycle of the states 1 to `length` that requests or grants nothing, beside random rows.
+fn beside_cycle(random: &mut Random, kind: u8, length: usize) -> Table {
+    let rows = (1..=length).map(|state| row(state, 0, state % length + 1)).collect();
+    beside(random, kind, length + 1, rows)
+}
+
+/// A chain from state 1 to FIN of `length` states, each of which requests {0} or {1}, or grants either, beside random rows.
+fn to_fin(random: &mut Random, kind: u8, length: usize) -> Table {
+    let rows = (1..=length).flat_map(|state| [1, 2].map(|set| row(state, set, (state + 1) % (length + 1)))).collect();
+    beside(random, kind, length + 1, rows)
+}
+
+/// A cycle of the states 1 to `length` that requests or grants nothing.
+fn turns(kind: u8, length: usize) -> Table {
+    table(kind, length + 1, (1..=length).map(|state| row(state, 0, state % length + 1)).collect())
+}
+
+/// 64 states with `each` rows, which request or grant nothing and lead on, to FIN, back, and anywhere: from the start all pairs are reached.
+fn onward(random: &mut Random, kind: u8, each: usize) -> Table {
+    let mut rows = Vec::new();
+    for state in 1..64 {
+        let mut targets = vec![state % 63 + 1, 0, state];
+        while targets.len() < each {
+            let target = random.below(64);
+            if !targets.contains(&target) {
+                targets.push(target);
+            }
+        }
+        rows.extend(targets.into_iter().map(|target| row(state, 0, target)));
+    }
+    table(kind, 64, rows)
+}

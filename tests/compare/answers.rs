@@ -5,6 +5,7 @@ use crate::file::{open, refuse, Kind, Refusal, Row, Table, MOST_ROWS, MOST_STATE
 use crate::graph::{graph, Graph};
 use crate::pick::picked;
 use crate::question::{Operation, Question, HEAD_LENGTH};
+use crate::reach::reached;
 use crate::report::report;
 use crate::rules::{
     combined_moves, count_kept, explain, join, marks, rounds, run, Mode, Pair, Tables, Triple,
@@ -22,6 +23,8 @@ pub struct Answer {
     pub explanation: Option<Explanation>,
     /// The numbers that Pick lists.
     pub picked: Option<Vec<u8>>,
+    /// The count of Reach, 0 on a no.
+    pub reached: Option<usize>,
 }
 
 impl Answer {
@@ -62,6 +65,7 @@ pub struct Returned {
     graph: Option<Graph>,
     explanation: Option<Explanation>,
     picked: Option<Vec<u8>>,
+    reached: Option<usize>,
 }
 
 fn returned(values: Vec<usize>) -> Returned {
@@ -86,7 +90,7 @@ pub fn answer(input: &[u8]) -> Answer {
     };
     let mut text = first_line(number, place, &done.values);
     match question.operation {
-        Operation::Open => {}
+        Operation::Open | Operation::Reach => {}
         Operation::Body => push_line(&mut text, &done.part),
         Operation::Moves | Operation::Decide | Operation::Run | Operation::Explain => {
             push_line(&mut text, &lent.first);
@@ -94,8 +98,8 @@ pub fn answer(input: &[u8]) -> Answer {
         }
         _ => push_line(&mut text, &lent.first),
     }
-    let Returned { decisions, graph, explanation, picked, .. } = done;
-    Answer { text, number: Some(number), decisions, graph, explanation, picked }
+    let Returned { decisions, graph, explanation, picked, reached, .. } = done;
+    Answer { text, number: Some(number), decisions, graph, explanation, picked, reached }
 }
 
 /// An answer that is never turned back.
@@ -194,6 +198,7 @@ pub fn call(question: &Question, file: &[u8], lent: &mut Lent) -> Result<Returne
         Operation::Graph => call_graph(question, &opened?, lent),
         Operation::Explain => call_explain(question, &opened?, lent),
         Operation::Pick => call_pick(question, &opened?, lent),
+        Operation::Reach => call_reach(question, &opened?),
         _ => call_report(file, lent),
     }
 }
@@ -392,6 +397,15 @@ fn call_pick(question: &Question, tables: &[Table], lent: &mut Lent) -> Result<R
     put_bytes(&numbers, lent);
     let values = vec![numbers.len()];
     Ok(Returned { values, picked: Some(numbers), ..Returned::default() })
+}
+
+fn call_reach(question: &Question, tables: &[Table]) -> Result<Returned, Refusal> {
+    let (tables, start) = tables_and_pair(question, tables)?;
+    let reached = reached(tables, start);
+    let (yes, count) = (reached.is_some(), reached.unwrap_or(0));
+    let values = vec![yes as usize, count];
+    let decisions = vec![Decision { mode: Mode::Full, yes, steps: 0 }];
+    Ok(Returned { values, decisions, reached: Some(count), ..Returned::default() })
 }
 
 /// Writes bytes at the start of the first slice lent.

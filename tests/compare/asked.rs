@@ -71,6 +71,7 @@ fn question_of(word: &str, words: &mut Words) -> Result<Question, String> {
         "run" => pair_question(Operation::Run, words),
         "explain" => pair_question(Operation::Explain, words),
         "graph" => pair_question(Operation::Graph, words),
+        "reach" => pair_question(Operation::Reach, words),
         "join" => join_question(words),
         "pick" => pick_question(words),
         "report" => {
@@ -112,7 +113,8 @@ fn mode_of(words: &mut Words) -> Result<usize, String> {
 }
 
 /// `[MODE] DEMAND SUPPLY from STATE STATE [standing SET] room ENTRIES [ENTRIES]`, the
-/// mode for Decide, Run and Explain, the second number of entries for Run and Explain.
+/// mode for Decide, Run and Explain, the second number of entries for Run and Explain, and
+/// no room for Reach.
 fn pair_question(operation: Operation, words: &mut Words) -> Result<Question, String> {
     let mut question = blank(operation);
     if [Operation::Decide, Operation::Run, Operation::Explain].contains(&operation) {
@@ -124,6 +126,9 @@ fn pair_question(operation: Operation, words: &mut Words) -> Result<Question, St
     question.demand_state = words.number()?;
     question.supply_state = words.number()?;
     question.set = words.set_behind("standing")?;
+    if operation == Operation::Reach {
+        return Ok(question);
+    }
     words.take_this("room")?;
     question.first_length = words.number()?;
     question.second_length = match operation {

@@ -6,6 +6,7 @@ use crate::aut::read_back;
 use crate::cases::{Case, Program};
 use crate::graph::printed;
 use crate::programs::{answers, questions, run, written_bytes, Ended};
+use crate::reach::hold_to_decide;
 use crate::report::report;
 use crate::tally::Tally;
 use crate::written::Written;
@@ -39,8 +40,8 @@ impl<'a> Batch<'a> {
         let (came, expected) = self.ask(&asked, || self.expect(tally));
         let mut outcomes: Vec<Outcome> = Vec::new();
         for (at, answer) in expected.iter().enumerate() {
-            let due = written.get(self.cases[at].0).map(|found| found.due.as_bytes());
-            outcomes.push(hold(due, answer.text.as_bytes()));
+            let due = written.get(self.cases[at].0).map(|found| &found.due[..]);
+            outcomes.push(hold(self.case(at), due, &answer.text));
         }
         for (at, came) in asked.iter().zip(came) {
             self.judge(&mut outcomes[*at], written, *at, &expected[*at], came);
@@ -168,13 +169,17 @@ fn taken(ended: &Ended, count: usize) -> Vec<Result<Vec<u8>, String>> {
     all
 }
 
-/// Holds the checker here to the answer that is due, where one is written down.
-fn hold(due: Option<&[u8]>, expected: &[u8]) -> Outcome {
-    match due {
-        None => Ok(()),
-        Some(due) => compare(due, expected)
-            .map_err(|reason| format!("the checker of tests/compare: {reason}")),
-    }
+/// Holds the checker here to the answer that is due, where one is written down, and
+/// what is due of Reach to Decide.
+fn hold(case: &Case, due: Option<&str>, expected: &str) -> Outcome {
+    let due = due.unwrap_or(expected);
+    let held = match case.program {
+        Program::Calls => hold_to_decide(&case.input, due),
+        _ => Ok(()),
+    };
+    compare(due.as_bytes(), expected.as_bytes())
+        .and(held)
+        .map_err(|reason| format!("the checker of tests/compare: {reason}"))
 }
 
 /// Compares two outputs; where they differ, says so of the first such line.

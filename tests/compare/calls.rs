@@ -42,8 +42,8 @@ const ALL_FAULTS: [Fault; 9] = [
 ];
 
 /// Every operation with every fault that makes it turn back, and more: Join gets
-/// wrong states and a wrong mode too, Moves and Graph a wrong mode, and Pick a wrong
-/// second table and wrong states. This is meant: they must ignore them.
+/// wrong states and a wrong mode too, Moves, Graph and Reach a wrong mode, and Pick a
+/// wrong second table and wrong states. This is meant: they must ignore them.
 pub fn operations_and_faults() -> Vec<(Operation, Fault)> {
     let mut all =
         vec![(Operation::Body, Fault::FirstTable), (Operation::Report, Fault::FirstLength)];
@@ -55,6 +55,7 @@ pub fn operations_and_faults() -> Vec<(Operation, Fault)> {
         (Operation::Graph, 8),
         (Operation::Explain, 9),
         (Operation::Pick, 8),
+        (Operation::Reach, 7),
     ] {
         all.extend(ALL_FAULTS[..faults].iter().map(|fault| (operation, *fault)));
     }

@@ -16,6 +16,7 @@ use crate::faults::{
 use crate::panel::pick_question;
 use crate::question::{Operation, HEAD_LENGTH, RANDOM_OPERATIONS};
 use crate::random::Random;
+use crate::reach_cases::reach_question;
 use crate::standing::standing_question;
 use crate::wide::{wide_graph, WIDE_GRAPHS};
 
@@ -64,7 +65,7 @@ const fn kind(name: &'static str, often: usize, make: fn(&mut Random, usize) -> 
     Kind { name, often, make }
 }
 
-const ROTATION: [Kind; 33] = [
+const ROTATION: [Kind; 34] = [
     kind("slots, random tables", 3, slots_random),
     kind("slots, cycles and chains", 1, slots_cycles),
     kind("slots, branching tables", 2, slots_branching),
@@ -85,9 +86,9 @@ const ROTATION: [Kind; 33] = [
     kind("calls, branching tables", 3, calls_branching),
     kind("calls, odd tables", 1, calls_odd),
     kind("calls, kinds in any order", 1, calls_any_order),
-    kind("calls, file with faults", 9, calls_faulty_file),
+    kind("calls, file with faults", 11, calls_faulty_file),
     kind("calls, two faults in order", 1, calls_two_faults),
-    kind("calls, question with faults", 5, calls_faulty_question),
+    kind("calls, question with faults", 6, calls_faulty_question),
     kind("calls, damaged file or random bytes", 1, calls_damaged),
     kind("calls, file at a limit", 1, calls_limit),
     kind("calls, Join of random tables", 2, calls_join),
@@ -95,6 +96,7 @@ const ROTATION: [Kind; 33] = [
     kind("calls, very many moves or triples", 1, calls_wide),
     kind("calls, standing resources", 4, calls_standing),
     kind("calls, Pick", 6, calls_pick),
+    kind("calls, Reach", 4, calls_reach),
     kind("calls, Report", 3, calls_report),
     kind("calls, Graph", 3, calls_graph),
     kind("calls, no whole question", 1, calls_nothing),
@@ -242,9 +244,10 @@ fn calls_random(random: &mut Random, turn: usize) -> Made {
         Operation::Moves,
         Operation::Explain,
         Operation::Run,
+        Operation::Reach,
     ];
-    let operation = match turn % 11 {
-        10 => any_operation(random),
+    let operation = match turn % 13 {
+        12 => any_operation(random),
         place => asked[place % asked.len()],
     };
     let file = file_of(&random_tables(random));
@@ -271,13 +274,20 @@ fn calls_branching(random: &mut Random, turn: usize) -> Made {
         Operation::Run,
         Operation::Explain,
         Operation::Decide,
+        Operation::Reach,
     ];
     let file = file_of(&branching(random));
     for_calls(likely_question(random, &file, asked[turn % asked.len()]).before(&file))
 }
 
 fn calls_odd(random: &mut Random, turn: usize) -> Made {
-    let asked = [Operation::Run, Operation::Moves, Operation::Decide, Operation::Explain];
+    let asked = [
+        Operation::Run,
+        Operation::Moves,
+        Operation::Decide,
+        Operation::Explain,
+        Operation::Reach,
+    ];
     let file = file_of(&odd_tables(random));
     for_calls(likely_question(random, &file, asked[turn % asked.len()]).before(&file))
 }
@@ -372,6 +382,11 @@ fn calls_pick(random: &mut Random, turn: usize) -> Made {
     for_calls(question.before(&file))
 }
 
+fn calls_reach(random: &mut Random, turn: usize) -> Made {
+    let (file, question) = reach_question(random, turn);
+    for_calls(question.before(&file))
+}
+
 /// How many sorts of file Report gets.
 const REPORT_FILES: usize = 5;
 
@@ -399,7 +414,7 @@ fn calls_graph(random: &mut Random, turn: usize) -> Made {
     for_calls(likely_question(random, &file, Operation::Graph).before(&file))
 }
 
-/// Questions shorter than a head, and operations above 11; also whole ones that
+/// Questions shorter than a head, and operations above 12; also whole ones that
 /// come in pieces.
 fn calls_nothing(random: &mut Random, turn: usize) -> Made {
     let file = sound_file(random);
@@ -417,5 +432,5 @@ fn calls_nothing(random: &mut Random, turn: usize) -> Made {
 }
 
 fn unknown_operation(random: &mut Random) -> u64 {
-    random.pick(&[12, 13, 255, 256, 1 << 32, u64::MAX])
+    random.pick(&[13, 14, 255, 256, 1 << 32, u64::MAX])
 }

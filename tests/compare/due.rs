@@ -39,7 +39,9 @@ pub fn due_of(mut words: Words) -> Result<Due, String> {
         "body" | "text" | "numbers" => {}
         yes @ ("yes" | "no") => {
             due.values = vec![(yes == "yes") as usize];
-            for word in ["kept", "rounds"] {
+            let of_reach = words.peek() == "reached";
+            let counts = if of_reach { &["reached"][..] } else { &["kept", "rounds"] };
+            for word in counts {
                 words.take_this(word)?;
                 due.values.push(words.number()?);
             }
@@ -87,7 +89,7 @@ impl Due {
         };
         let mut text = first_line(self.number, self.place, &self.values);
         match question.operation {
-            Operation::Open => {}
+            Operation::Open | Operation::Reach => {}
             Operation::Readers | Operation::Constants => return Ok(self.numbers(question)),
             Operation::Body => push_line(&mut text, &self.bytes),
             Operation::Moves | Operation::Decide | Operation::Run | Operation::Explain => {

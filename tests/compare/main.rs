@@ -34,6 +34,8 @@ mod pick;
 mod programs;
 mod question;
 mod random;
+mod reach;
+mod reach_cases;
 mod report;
 mod rules;
 mod sets;

@@ -17,10 +17,11 @@ pub enum Operation {
     Graph,
     Explain,
     Pick,
+    Reach,
 }
 
 /// All operations, each at its number.
-pub const OPERATIONS: [Operation; 12] = [
+pub const OPERATIONS: [Operation; 13] = [
     Operation::Open,
     Operation::Body,
     Operation::Moves,
@@ -33,10 +34,11 @@ pub const OPERATIONS: [Operation; 12] = [
     Operation::Graph,
     Operation::Explain,
     Operation::Pick,
+    Operation::Reach,
 ];
 
 /// Those that random cases ask for.
-pub const RANDOM_OPERATIONS: [Operation; 10] = [
+pub const RANDOM_OPERATIONS: [Operation; 11] = [
     Operation::Open,
     Operation::Body,
     Operation::Moves,
@@ -47,15 +49,17 @@ pub const RANDOM_OPERATIONS: [Operation; 10] = [
     Operation::Graph,
     Operation::Explain,
     Operation::Pick,
+    Operation::Reach,
 ];
 
 /// Those that take two tables, a pair of states and a set of standing resources.
-pub const STANDING_OPERATIONS: [Operation; 5] = [
+pub const STANDING_OPERATIONS: [Operation; 6] = [
     Operation::Moves,
     Operation::Decide,
     Operation::Run,
     Operation::Graph,
     Operation::Explain,
+    Operation::Reach,
 ];
 
 #[derive(Clone, Copy)]

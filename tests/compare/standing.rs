@@ -7,14 +7,16 @@ use crate::drafts::{draft, file_of, random_style, random_table, Draft, DEMAND, S
 use crate::file::{open, Row, Table};
 use crate::question::{Operation, Question, STANDING_OPERATIONS};
 use crate::random::Random;
+use crate::reach::reached;
 use crate::rules::{combined_moves, marks, Mode, Pair, Tables, FIN};
 
 /// How often tables are drawn at most, until the standing set does what is sought.
 const DRAWS: usize = 100;
 
-/// A file and a question of one of the five operations in turn. Sought is a set that
+/// A file and a question of one of the six operations in turn. Sought is a set that
 /// turns a no into a yes or a yes into a no, by turns and in both modes; for Moves one
-/// by which other moves survive, or supply rows become alike; for Graph any.
+/// by which other moves survive, or supply rows become alike; for Graph any; for Reach
+/// one that turns its answer, or changes the count of a yes.
 pub fn standing_question(random: &mut Random, turn: usize) -> (Vec<u8>, Question) {
     let operation = STANDING_OPERATIONS[turn % STANDING_OPERATIONS.len()];
     let round = turn / STANDING_OPERATIONS.len();
@@ -71,15 +73,20 @@ fn does_what_is_sought(file: &[u8], question: &Question, round: usize) -> bool {
         return false;
     };
     let first = round % 2 == 0;
+    let plain = Tables { standing: 0, ..tables };
     match question.operation {
         Operation::Graph => true,
+        Operation::Reach => match (reached(tables, pair), reached(plain, pair)) {
+            (Some(_), None) => round % 3 == 0,
+            (None, Some(_)) => round % 3 == 1,
+            (one, other) => round % 3 == 2 && one != other,
+        },
         Operation::Moves if first => others_survive(tables, pair),
         Operation::Moves => rows_became_alike(tables, pair),
         _ => {
             let place = round / 2 % 2;
             let mode = [Mode::Full, Mode::Partial][place];
             let yes = |tables: Tables| marks(tables, mode)[tables.entry(pair)] == 0;
-            let plain = Tables { standing: 0, ..tables };
             question.mode == place && yes(tables) == first && yes(plain) != first
         }
     }
@@ -87,7 +94,7 @@ fn does_what_is_sought(file: &[u8], question: &Question, round: usize) -> bool {
 
 /// The tables of a question with its standing set, and its pair, where there are
 /// such tables and states.
-fn asked_about<'a>(question: &Question, all: &'a [Table]) -> Option<(Tables<'a>, Pair)> {
+pub fn asked_about<'a>(question: &Question, all: &'a [Table]) -> Option<(Tables<'a>, Pair)> {
     let (demand, supply) = (all.get(question.first_table)?, all.get(question.second_table)?);
     let pair = Pair { demand: question.demand_state, supply: question.supply_state };
     let there = pair.demand < demand.states && pair.supply < supply.states;
@@ -129,11 +136,15 @@ pub const STANDINGS: [&str; 9] = [
     "with supply rows that became alike",
 ];
 
+const DECIDING_IN_FULL_MODE: [Operation; 3] =
+    [Operation::Decide, Operation::Run, Operation::Reach];
+
 /// Whether a sort of `STANDINGS` has to come for an operation.
 pub fn has_to_come(sort: usize, operation: Operation) -> bool {
     match sort {
         0..=2 => true,
-        3..=6 => [Operation::Decide, Operation::Run].contains(&operation),
+        3 | 5 => DECIDING_IN_FULL_MODE.contains(&operation),
+        4 | 6 => [Operation::Decide, Operation::Run].contains(&operation),
         7 => operation == Operation::Moves,
         _ => operation != Operation::Decide,
     }

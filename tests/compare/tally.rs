@@ -5,12 +5,13 @@ use crate::cases::Program;
 use crate::file::open;
 use crate::panel::{sorts_of_pick, PICKS};
 use crate::question::{Operation, Question, HEAD_LENGTH, STANDING_OPERATIONS};
+use crate::reach_cases::{sorts_of_reach, REACHES};
 use crate::rules::{Mode, NO_ROW};
 use crate::standing::{has_to_come, sorts_of, STANDINGS};
 
-const COLUMNS: [&str; 14] = [
+const COLUMNS: [&str; 15] = [
     "slots", "aut", "Open", "Body", "Moves", "Decide", "Run", "Join", "Report", "Readers",
-    "Constants", "Graph", "Explain", "Pick",
+    "Constants", "Graph", "Explain", "Pick", "Reach",
 ];
 const NUMBERS: usize = 18;
 const VERDICTS: [&str; 3] = ["full yes", "full no with partial yes", "partial no"];
@@ -49,6 +50,7 @@ pub struct Tally {
     explanations: [usize; EXPLANATIONS.len()],
     joins: [usize; JOINS.len()],
     picks: [usize; PICKS.len()],
+    reaches: [usize; REACHES.len()],
     /// For each sort the operations, as they stand in `STANDING_OPERATIONS`.
     standings: [[usize; STANDING_OPERATIONS.len()]; STANDINGS.len()],
 }
@@ -68,6 +70,7 @@ impl Tally {
             explanations: [0; EXPLANATIONS.len()],
             joins: [0; JOINS.len()],
             picks: [0; PICKS.len()],
+            reaches: [0; REACHES.len()],
             standings: [[0; STANDING_OPERATIONS.len()]; STANDINGS.len()],
         }
     }
@@ -141,6 +144,12 @@ impl Tally {
                 *count += found as usize;
             }
         }
+        if let Some(count) = answer.reached {
+            let sorts = sorts_of_reach(question, file, count);
+            for (count, found) in self.reaches.iter_mut().zip(sorts) {
+                *count += found as usize;
+            }
+        }
         if let Some(place) = STANDING_OPERATIONS.iter().position(|one| *one == operation) {
             let sorts = sorts_of(question, file, answer);
             for (counts, found) in self.standings.iter_mut().zip(sorts) {
@@ -184,6 +193,9 @@ impl Tally {
         for kind in 0..PICKS.len() {
             self.picks[kind] += other.picks[kind];
         }
+        for kind in 0..REACHES.len() {
+            self.reaches[kind] += other.reaches[kind];
+        }
         for (counts, others) in self.standings.iter_mut().zip(other.standings) {
             for (count, other) in counts.iter_mut().zip(others) {
                 *count += other;
@@ -222,6 +234,7 @@ impl Tally {
         println!("explained: {}", listed(&EXPLANATIONS, &self.explanations));
         println!("joined: {}", listed(&JOINS, &self.joins));
         println!("picked: {}", listed(&PICKS, &self.picks));
+        println!("reached: {}", listed(&REACHES, &self.reaches));
         for (sort, name) in STANDINGS.iter().enumerate() {
             let (operations, counts): (Vec<_>, Vec<_>) = self.standing(sort).into_iter().unzip();
             println!("{name}: {}", listed(&operations, &counts));
@@ -238,7 +251,8 @@ impl Tally {
     }
 
     /// What no case hit, as sentences: numbers of the calls, verdicts of `slots`,
-    /// explanations, joins, picks, standing sets, a long run, a long text.
+    /// explanations, joins, picks, answers of Reach, standing sets, a long run, a long
+    /// text.
     pub fn missing(&self) -> Vec<String> {
         let mut sentences = Vec::new();
         for number in 0..NUMBERS {
@@ -259,6 +273,9 @@ impl Tally {
         }
         for name in never(&PICKS, &self.picks) {
             sentences.push(format!("no Pick was carried out {name}"));
+        }
+        for name in never(&REACHES, &self.reaches) {
+            sentences.push(format!("no Reach said {name}"));
         }
         for (sort, name) in STANDINGS.iter().enumerate() {
             for (operation, _) in self.standing(sort).iter().filter(|(_, count)| *count == 0) {
@@ -308,6 +325,7 @@ fn can_answer(column: usize, number: usize) -> bool {
         "Join" => number <= 12 || [14, 16, 17].contains(&number),
         "Report" => number == 0 || number == 14,
         "Readers" | "Constants" => number == 0,
+        "Reach" => number <= 13,
         _ => number <= 15,
     }
 }

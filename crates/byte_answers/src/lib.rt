@@ -1,7 +1,7 @@
 // The answers of the calls that are lent bytes, which are Join, Graph, `report::write` and Pick, and of those that are lent nothing, which are Open, Body,
-// the readers and the constants, in the lines that the head of `calls_test` tells. What reaches the output no contract states, and the case files hold it.
-// Relies on `tables`, `checker`, `picker` and `report` for the calls, on `rules` for the constants, on `input` for what a call takes, on `answer_parts` for
-// the parts of an answer and on `output` for lines.
+// Reach, the readers and the constants, in the lines that the head of `calls_test` tells. What reaches the output no contract states, and the case files
+// hold it. Relies on `tables`, `checker`, `picker` and `report` for the calls, on `rules` for the constants, on `input` for what a call takes, on
+// `answer_parts` for the parts of an answer and on `output` for lines.
 #![tactic(auto)]
 
 use input::Call;
@@ -47,6 +47,11 @@ pub fn pick(call: Call) {
     answer_parts::bytes(call.length, |out| {
         answer_parts::tell_count(picker::pick(call.file, demand, call.mode, standing, out));
     });
+}
+
+pub fn reach(call: Call) {
+    let found = checker::reach(call.file, call.question);
+    answer_parts::tell(found.map(|it| (it.yes as usize, it.count as usize, 0)));
 }
 
 // What the readers of contents entries and of rows find, with the file taken as contents and as a body, and the body that the entry tells of.

@@ -4,4 +4,5 @@ pub mod DecideLaws
 pub mod DemandLaws
 pub mod RunLaws
 pub mod ExplainLaws
+pub mod ReachLaws
 pub mod JoinLaws

@@ -4,5 +4,6 @@ pub mod Graph
 pub mod Decide
 pub mod Run
 pub mod Explain
+pub mod Reach
 pub mod Demands
 pub mod Join

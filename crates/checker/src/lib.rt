@@ -3,17 +3,18 @@
 // a question has a standing set too, which the supply grants in every slot. Relies on `rules` for the meaning, on `tables` for the file, on `questions` for
 // what turns back a call before its engine runs and for loading the tables of a pair, on `machines` for loading those of a join, and on the engines: `moves`
 // for the surviving moves of a pair, `graphs` for those of all pairs as text, `marks` for the marks of all pairs, `runs` for the run that shows a no,
-// `explanations` for the triples that tell why a pair is kept or struck, `joins` for the rows of a join.
+// `explanations` for the triples that tell why a pair is kept or struck, `reachability` for the pairs that a start can reach, `joins` for the rows of a join.
 #![tactic(auto)]
 
 ghost use Rattle.std.specs.Prelude.{◌≡◌, length};
 ghost use Rattle.tables.specs.Answers.{counted};
-ghost use Rattle.checker.specs.Calls.{decided, joined};
+ghost use Rattle.checker.specs.Calls.{decided, reached, joined};
 ghost use Rattle.checker.specs.Moves.{moves_answer, moves_slice};
 ghost use Rattle.checker.specs.Graph.{graph_answer, graph_slice, GraphDemands};
 ghost use Rattle.checker.specs.Decide.{decide_answer, decide_slice};
 ghost use Rattle.checker.specs.Run.{run_answer, run_marks, run_steps};
 ghost use Rattle.checker.specs.Explain.{explain_answer, explain_marks, explain_triples};
+ghost use Rattle.checker.specs.Reach.{reach_answer, ReachDemands};
 ghost use Rattle.checker.specs.Demands.{MovesDemands, DecideDemands, RunDemands, ExplainDemands};
 ghost use Rattle.checker.specs.Join.{join_answer, join_slice, JoinDemands};
 
@@ -29,6 +30,13 @@ pub struct Verdict {
     pub yes: bool,
     pub kept: u16,
     pub rounds: u16,
+}
+
+// What Reach finds: yes or no for the start pair, and how many pairs it can reach, itself included; 0 on a no.
+#[derive(Clone, Copy)]
+pub struct Reached {
+    pub yes: bool,
+    pub count: u16,
 }
 
 // How large a table is: `states` is document 01's n, and `rows` its m.
@@ -157,6 +165,20 @@ pub fn explain(
     marks[..pairs].copy_from_slice(&made[..pairs]);
     explanations::write(sides, mode, loaded.start, &made, triples);
     Ok(entries / explanations::ENTRIES_PER_TRIPLE)
+}
+
+// Reach: what Decide says in full mode, by following surviving moves from the start pair alone, and on a yes how many pairs are reached.
+pub fn reach(file: &[u8], question: Question) -> Result<Reached, Refusal>
+    ensures answer { reached result ≡ reach_answer file.now question }
+    ensures demands { ReachDemands file.now question (reached result) }
+{
+    check_pair(file, question)?;
+    let loaded = load_pair(file, question);
+    let count = reachability::count(loaded.sides(), loaded.start);
+    Ok(Reached {
+        yes: count.is_some(),
+        count: count.unwrap_or(0),
+    })
 }
 
 // Join: two demand tables, perhaps the same one, as one table whose states are the pairs of their states. Two moves that share a resource which is not

@@ -16,6 +16,7 @@ pub enum Operation {
     Graph,
     Explain,
     Pick,
+    Reach,
 }
 
 // A number that is no operation's.
@@ -42,6 +43,7 @@ impl TryFrom<usize> for Operation {
             9 => Ok(Operation::Graph),
             10 => Ok(Operation::Explain),
             11 => Ok(Operation::Pick),
+            12 => Ok(Operation::Reach),
             _ => Err(UnknownOperation {}),
         }
     }

@@ -1,3 +1,4 @@
 pub mod StateLaws
 pub mod StoredLaws
 pub mod StateSetLaws
+pub mod PairSetLaws

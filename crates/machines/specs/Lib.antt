@@ -4,3 +4,4 @@ pub mod Stored
 pub mod Machine
 pub mod Targets
 pub mod Sides
+pub mod PairSets

@@ -1,2 +1,3 @@
 pub mod SurvivorLaws
 pub mod CollectedLaws
+pub mod TargetLaws

@@ -15,7 +15,7 @@ use Rattle.rules.specs.Lists.{Pairwise}
 use Rattle.rules.specs.Below.{list_below, lists_below, sum_below, max_below, one}
 use Rattle.rules.specs.Machines.{Machine}
 use Rattle.rules.specs.Rounds.{count_pairs, pair_number}
-use Rattle.rules.proofs.Booleans.{T-or}
+use Rattle.rules.proofs.Booleans.{T-or, T_true, T_false}
 use Rattle.rules.proofs.ListLaws.{map-append, pairwise_append}
 
 -- two tables have few pairs of states
@@ -204,6 +204,17 @@ pub sum-const : (n c : ℕ) → sum_below n (λ i. c) ≡ n * c
 sum-const zero c = omega arith
 sum-const (suc n) c = omega (arith, sum-const n c)
 
+-- all but one are 0
+pub sum-single : (n : ℕ) (f : ℕ → ℕ) (u : ℕ) → u < n → ((i : ℕ) → i < n → (i ≡ u → ⊥) → f i ≡ 0) → sum_below n f ≡ f u
+sum-single zero f u l h = absurd (omega arith)
+sum-single (suc n) f u l h = go (lt_cases u n l) (λ k. sum-single n f u k (λ i m. h i (omega arith)))
+  where
+    go : (u < n) ⊎ (u ≡ n) → (u < n → sum_below n f ≡ f u) → sum_below n f + f n ≡ f u
+    go (inl k) more = omega (arith, more k, h n (omega arith) (λ e. omega arith))
+    go (inr e) more =
+        let before : sum_below n f ≡ n * 0 = sum-cong n f (λ i. 0) (λ i m. h i (omega arith) (λ d. omega arith)) ∙ sum-const n 0 in
+        omega (arith, before, ap f e)
+
 pub max_above : (n : ℕ) (f : ℕ → ℕ) (i : ℕ) → i < n → f i ≤ max_below n f
 max_above zero f i l = absurd (omega arith)
 max_above (suc n) f i l = go (lt_cases i n l) (λ k. max_above n f i k)
@@ -284,6 +295,35 @@ module _ (D S : Machine) (p q : ℕ → ℕ → Bool) where
   count_cong h =
       sum-cong D.n (λ t. sum_below S.n (λ s. one (p t s))) (λ t. sum_below S.n (λ s. one (q t s)))
       (λ t l. sum-cong S.n (λ s. one (p t s)) (λ s. one (q t s)) (λ s k. ap one (h t s l k)))
+
+-- one pair passes
+pub count_one : (D S : Machine) (p : ℕ → ℕ → Bool) (u v : ℕ) → u < D.n → v < S.n → T (p u v) → ((t s : ℕ) → T (p t s) → (t ≡ u) × (s ≡ v))
+    → count_pairs D S p ≡ 1
+unfolding count_pairs
+count_one D S p u v l k h alone =
+    sum-single D.n (λ t. sum_below S.n (λ s. one (p t s))) u l
+    (λ t m d. sum-cong S.n (λ s. one (p t s)) (λ s. 0) (λ s i. none t s (λ x. d (alone t s x).0)) ∙ sum-const S.n 0 ∙ omega arith)
+    ∙ sum-single S.n (λ s. one (p u s)) v k (λ s i d. none u s (λ x. d (alone u s x).1))
+    ∙ ap one (T_true (p u v) h)
+  where
+    none : (t s : ℕ) → (T (p t s) → ⊥) → one (p t s) ≡ 0
+    none t s n = ap one (T_false (p t s) n)
+
+-- none passes
+pub count_none : (D S : Machine) (p : ℕ → ℕ → Bool) → ((t s : ℕ) → t < D.n → s < S.n → T (p t s) → ⊥) → count_pairs D S p ≡ 0
+unfolding count_pairs
+count_none D S p f =
+    sum-cong D.n (λ t. sum_below S.n (λ s. one (p t s))) (λ t. 0)
+    (λ t l. sum-cong S.n (λ s. one (p t s)) (λ s. 0) (λ s k. ap one (T_false (p t s) (f t s l k))) ∙ sum-const S.n 0 ∙ omega arith)
+    ∙ sum-const D.n 0 ∙ omega arith
+
+-- some pair passes
+pub count_some : (D S : Machine) (p : ℕ → ℕ → Bool) (u v : ℕ) → u < D.n → v < S.n → T (p u v) → 1 ≤ count_pairs D S p
+count_some D S p u v l k h = go (count_pairs D S p) refl
+  where
+    go : (m : ℕ) → count_pairs D S p ≡ m → 1 ≤ m
+    go zero e = absurd (count_same D S (λ t s. false) p (λ t s i j x. absurd x) (omega arith) u v l k h)
+    go (suc m) e = omega arith
 
 -- where each pair counts for a third test what it counts for two together, so do all pairs
 pub count_add : (D S : Machine) (p q r : ℕ → ℕ → Bool) → ((t s : ℕ) → t < D.n → s < S.n → one (p t s) + one (q t s) ≡ one (r t s))

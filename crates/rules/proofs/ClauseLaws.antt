@@ -6,6 +6,9 @@ module _ {A B : Type 0} where
   pub as_answer_bytes : A × B → record { answer : A; bytes : B }
   as_answer_bytes p = record { answer = p.0; bytes = p.1 }
 
+  pub as_answer_demands : A × B → record { answer : A; demands : B }
+  as_answer_demands p = record { answer = p.0; demands = p.1 }
+
 module _ {A B C : Type 0} where
   pub as_answer_slice_demands : A × (B × C) → record { answer : A; slice : B; demands : C }
   as_answer_slice_demands p = record { answer = p.0; slice = p.1.0; demands = p.1.1 }

@@ -12,9 +12,11 @@ pub mod WideningLaws
 pub mod MoveLaws
 pub mod PadsLaws
 pub mod RelationLaws
+pub mod DescentLaws
 pub mod RoundLaws
 pub mod MarkLaws
 pub mod RunLaws
+pub mod ReachLaws
 pub mod StepLaws
 pub mod ExplanationLaws
 pub mod JoinLaws

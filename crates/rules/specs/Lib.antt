@@ -9,6 +9,7 @@ pub mod Moves
 pub mod Relations
 pub mod Rounds
 pub mod Runs
+pub mod Reach
 pub mod Steps
 pub mod Explanations
 pub mod Join

@@ -5,7 +5,7 @@
 
 ghost use Rattle.std.specs.Prelude.{◌≡◌};
 ghost use Rattle.rules.specs.Sets.{difference, shares_outside, left, consumed, unmet, inside, larger};
-ghost use Rattle.rules.specs.Rows.{row, move, idle, rises};
+ghost use Rattle.rules.specs.Rows.{row, move, idle, pair, rises};
 ghost use Rattle.rules.specs.Moves.{left_of, consumed_of, unmet_of};
 
 // The limits of document 01: resources in a set, states and rows of a table, tables and bytes of a file.
@@ -98,6 +98,16 @@ pub struct Candidate {
 
 #[tactic(auto, unfolding(crate::specs::Moves::left_of, crate::specs::Moves::consumed_of, crate::specs::Moves::unmet_of))]
 impl Candidate {
+    // The pair that it leads to.
+    pub fn target(self) -> Pair
+        ensures { result ≡ pair self.task.target self.supply.target }
+    {
+        Pair {
+            demand: self.task.target,
+            supply: self.supply.target,
+        }
+    }
+
     // What is granted and not requested.
     pub fn left(self) -> u16
         ensures { result ≡ left_of self }
@@ -121,7 +131,7 @@ impl Candidate {
 }
 
 // A pair of states: one of the demand, one of the supply.
-#[derive(Clone, Copy)]
+#[derive(Clone, Copy, Default)]
 pub struct Pair {
     pub demand: u8,
     pub supply: u8,
