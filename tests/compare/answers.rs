@@ -3,6 +3,7 @@
 
 use crate::file::{open, refuse, Kind, Refusal, Row, Table, MOST_ROWS, MOST_STATES};
 use crate::graph::{graph, Graph};
+use crate::merge::merge;
 use crate::pick::picked;
 use crate::question::{Operation, Question, HEAD_LENGTH};
 use crate::reach::reached;
@@ -168,15 +169,17 @@ pub fn byte_before(i: usize) -> u8 {
     (i % 251) as u8
 }
 
-/// The lent slices as they stand before the call. The bytes lent to Join, Report,
-/// Graph and Pick are held as numbers here.
+/// The lent slices as they stand before the call. The bytes lent to Join, Merge,
+/// Report, Graph and Pick are held as numbers here.
 fn lend(question: &Question) -> Lent {
     let numbers = |length: usize| (0..length).map(entry_before).collect();
     let bytes = |length: usize| (0..length).map(|i| byte_before(i) as u16).collect();
     match question.operation {
-        Operation::Join | Operation::Report | Operation::Graph | Operation::Pick => {
-            Lent { first: bytes(question.first_length), second: Vec::new() }
-        }
+        Operation::Join
+        | Operation::Merge
+        | Operation::Report
+        | Operation::Graph
+        | Operation::Pick => Lent { first: bytes(question.first_length), second: Vec::new() },
         Operation::Moves | Operation::Decide | Operation::Run | Operation::Explain => Lent {
             first: numbers(question.first_length),
             second: numbers(question.second_length),
@@ -194,7 +197,8 @@ pub fn call(question: &Question, file: &[u8], lent: &mut Lent) -> Result<Returne
         Operation::Moves => call_moves(question, &opened?, lent),
         Operation::Decide => call_decide(question, &opened?, lent),
         Operation::Run => call_run(question, &opened?, lent),
-        Operation::Join => call_join(question, &opened?, lent),
+        Operation::Join => call_join(question, &opened?, lent, Kind::Demand),
+        Operation::Merge => call_join(question, &opened?, lent, Kind::Supply),
         Operation::Graph => call_graph(question, &opened?, lent),
         Operation::Explain => call_explain(question, &opened?, lent),
         Operation::Pick => call_pick(question, &opened?, lent),
@@ -308,13 +312,22 @@ fn call_run(question: &Question, tables: &[Table], lent: &mut Lent) -> Result<Re
     Ok(Returned { values: vec![steps.len()], decisions, ..Returned::default() })
 }
 
-fn call_join(question: &Question, tables: &[Table], lent: &mut Lent) -> Result<Returned, Refusal> {
-    let [first, second] = two_tables(question, tables, [Kind::Demand, Kind::Demand])?;
+/// Join for two demand tables, Merge for two supply tables.
+fn call_join(
+    question: &Question,
+    tables: &[Table],
+    lent: &mut Lent,
+    kind: Kind,
+) -> Result<Returned, Refusal> {
+    let [first, second] = two_tables(question, tables, [kind; 2])?;
     let states = first.states * second.states;
     if states > MOST_STATES {
         return refuse(16, 0);
     }
-    let rows = join(first, second, question.resources());
+    let rows = match kind {
+        Kind::Demand => join(first, second, question.resources()),
+        Kind::Supply => merge(first, second),
+    };
     if rows.len() > MOST_ROWS {
         return refuse(17, 0);
     }

@@ -72,7 +72,8 @@ fn question_of(word: &str, words: &mut Words) -> Result<Question, String> {
         "explain" => pair_question(Operation::Explain, words),
         "graph" => pair_question(Operation::Graph, words),
         "reach" => pair_question(Operation::Reach, words),
-        "join" => join_question(words),
+        "join" => join_question(Operation::Join, words),
+        "merge" => join_question(Operation::Merge, words),
         "pick" => pick_question(words),
         "report" => {
             words.take_this("room")?;
@@ -82,12 +83,14 @@ fn question_of(word: &str, words: &mut Words) -> Result<Question, String> {
     }
 }
 
-/// `FIRST SECOND [common SET] room BYTES`.
-fn join_question(words: &mut Words) -> Result<Question, String> {
-    let mut question = blank(Operation::Join);
+/// `FIRST SECOND [common SET] room BYTES`, the set for Join alone.
+fn join_question(operation: Operation, words: &mut Words) -> Result<Question, String> {
+    let mut question = blank(operation);
     question.first_table = words.number()?;
     question.second_table = words.number()?;
-    question.set = words.set_behind("common")?;
+    if operation == Operation::Join {
+        question.set = words.set_behind("common")?;
+    }
     words.take_this("room")?;
     question.first_length = words.number()?;
     Ok(question)

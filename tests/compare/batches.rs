@@ -5,6 +5,7 @@ use crate::answers::{answer, Answer};
 use crate::aut::read_back;
 use crate::cases::{Case, Program};
 use crate::graph::printed;
+use crate::merge::hold_to_properties;
 use crate::programs::{answers, questions, run, written_bytes, Ended};
 use crate::reach::hold_to_decide;
 use crate::report::report;
@@ -170,11 +171,13 @@ fn taken(ended: &Ended, count: usize) -> Vec<Result<Vec<u8>, String>> {
 }
 
 /// Holds the checker here to the answer that is due, where one is written down, and
-/// what is due of Reach to Decide.
+/// what is due of Reach to Decide, of Merge to the two properties of its live pairs.
 fn hold(case: &Case, due: Option<&str>, expected: &str) -> Outcome {
     let due = due.unwrap_or(expected);
     let held = match case.program {
-        Program::Calls => hold_to_decide(&case.input, due),
+        Program::Calls => {
+            hold_to_decide(&case.input, due).and(hold_to_properties(&case.input, due))
+        }
         _ => Ok(()),
     };
     compare(due.as_bytes(), expected.as_bytes())

@@ -4,6 +4,7 @@
 use crate::drafts::{draft, file_of, table_with_rows, Draft, DEMAND, SUPPLY};
 use crate::file::{open, Kind, Table, MOST_STATES};
 use crate::graph::graph;
+use crate::merge::merge;
 use crate::pick::picked;
 use crate::question::{Operation, Question, STANDING_OPERATIONS};
 use crate::random::Random;
@@ -41,8 +42,8 @@ const ALL_FAULTS: [Fault; 9] = [
     Fault::SecondLength,
 ];
 
-/// Every operation with every fault that makes it turn back, and more: Join gets
-/// wrong states and a wrong mode too, Moves, Graph and Reach a wrong mode, and Pick a
+/// Every operation with every fault that makes it turn back, and more: Join and Merge
+/// get wrong states and a wrong mode too, Moves, Graph and Reach a wrong mode, and Pick a
 /// wrong second table and wrong states. This is meant: they must ignore them.
 pub fn operations_and_faults() -> Vec<(Operation, Fault)> {
     let mut all =
@@ -56,6 +57,7 @@ pub fn operations_and_faults() -> Vec<(Operation, Fault)> {
         (Operation::Explain, 9),
         (Operation::Pick, 8),
         (Operation::Reach, 7),
+        (Operation::Merge, 8),
     ] {
         all.extend(ALL_FAULTS[..faults].iter().map(|fault| (operation, *fault)));
     }
@@ -79,15 +81,14 @@ pub fn likely_question(random: &mut Random, file: &[u8], operation: Operation) -
 /// A question with slices exactly as long as the call asks for.
 fn exact_question(random: &mut Random, file: &[u8], operation: Operation) -> Question {
     let tables = &open(file).unwrap_or_default();
-    let second_kind =
-        if operation == Operation::Join { Kind::Demand } else { Kind::Supply };
+    let [first_kind, second_kind] = kinds_taken(operation);
     let any_table = random.below(tables.len().max(1));
     let first_table = match operation {
         Operation::Body => any_table,
-        _ => table_of_kind(random, tables, Kind::Demand),
+        _ => table_of_kind(random, tables, first_kind),
     };
     let second_table = match operation {
-        Operation::Join if random.chance(1, 4) => first_table,
+        Operation::Join | Operation::Merge if random.chance(1, 4) => first_table,
         _ => table_of_kind(random, tables, second_kind),
     };
     let from_start = random.chance(1, 2);
@@ -113,6 +114,15 @@ fn exact_question(random: &mut Random, file: &[u8], operation: Operation) -> Que
     }
     set_length_by_file(&mut question, file, tables);
     question
+}
+
+/// The kinds of the tables that a call takes.
+fn kinds_taken(operation: Operation) -> [Kind; 2] {
+    match operation {
+        Operation::Join => [Kind::Demand; 2],
+        Operation::Merge => [Kind::Supply; 2],
+        _ => [Kind::Demand, Kind::Supply],
+    }
 }
 
 /// The set of resources for a call on two tables.
@@ -189,11 +199,12 @@ fn set_exact_lengths(question: &mut Question, first: &Table, second: &Table) {
             question.first_length = count_of_pairs;
             question.second_length = 2 * count_of_pairs;
         }
-        Operation::Join => {
-            if count_of_pairs <= MOST_STATES {
-                let count = join(first, second, question.resources()).len();
-                question.first_length = (4 * count).min(LONGEST_SLICE);
-            }
+        Operation::Join | Operation::Merge if count_of_pairs <= MOST_STATES => {
+            let rows = match question.operation {
+                Operation::Join => join(first, second, question.resources()),
+                _ => merge(first, second),
+            };
+            question.first_length = (4 * rows.len()).min(LONGEST_SLICE);
         }
         Operation::Graph => {
             question.first_length = graph(tables, pair).text().len().min(LONGEST_SLICE);
@@ -245,14 +256,14 @@ pub fn faulty_question(
 }
 
 fn add_fault(random: &mut Random, question: &mut Question, tables: &[Table], fault: Fault) {
-    let second_wrong = match question.operation {
-        Operation::Join => Kind::Supply,
-        _ => Kind::Demand,
-    };
+    let [first_wrong, second_wrong] = kinds_taken(question.operation).map(|kind| match kind {
+        Kind::Demand => Kind::Supply,
+        Kind::Supply => Kind::Demand,
+    });
     match fault {
         Fault::FirstTable => question.first_table = beyond(random, tables.len()),
         Fault::SecondTable => question.second_table = beyond(random, tables.len()),
-        Fault::FirstKind => question.first_table = table_of_kind(random, tables, Kind::Supply),
+        Fault::FirstKind => question.first_table = table_of_kind(random, tables, first_wrong),
         Fault::SecondKind => question.second_table = table_of_kind(random, tables, second_wrong),
         Fault::DemandState => {
             let states = tables.get(question.first_table).map_or(4, |table| table.states);
@@ -284,7 +295,7 @@ fn under(random: &mut Random, exact: usize) -> usize {
     random.pick(&[exact - 1, exact - 1, 0, any])
 }
 
-/// How many joins `join_at_limit` makes.
+/// How many joins or merges `join_at_limit` makes.
 const JOINS: usize = 20;
 /// From this one on, all rows of both tables have resource 15: the join comes to
 /// the limit where that is common.
@@ -351,14 +362,21 @@ fn subsets(count: usize, more: usize) -> Draft {
     draft(DEMAND, 2, &rows)
 }
 
-/// A join at a limit: the file, and a question with the exact length of the
-/// slice, or one too short, or one somewhat longer.
-pub fn join_at_limit(random: &mut Random, turn: usize) -> (Vec<u8>, Question) {
+/// A join at a limit, or a merge of the same tables as supplies: the file, and a
+/// question with the exact length of the slice, or one too short, or one somewhat longer.
+pub fn join_at_limit(
+    random: &mut Random,
+    turn: usize,
+    operation: Operation,
+) -> (Vec<u8>, Question) {
     let which = turn % JOINS;
-    let tables = tables_to_join(random, which);
+    let mut tables = tables_to_join(random, which);
+    if operation == Operation::Merge {
+        tables = tables.map(|table| Draft { kind: SUPPLY, ..table });
+    }
     let file = file_of(&tables);
     let opened = open(&file).unwrap_or_default();
-    let mut question = exact_question(random, &file, Operation::Join);
+    let mut question = exact_question(random, &file, operation);
     question.first_table = 0;
     question.second_table = 1;
     if random.chance(1, 4) {

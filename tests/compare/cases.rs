@@ -13,6 +13,7 @@ use crate::faults::{
     damaged_file, faulty_file, limit_file, noise, sound_file, two_faults, FAULTS, LIMITS,
     TWO_FAULTS,
 };
+use crate::merge_cases::merge_question;
 use crate::panel::pick_question;
 use crate::question::{Operation, HEAD_LENGTH, RANDOM_OPERATIONS};
 use crate::random::Random;
@@ -65,7 +66,7 @@ const fn kind(name: &'static str, often: usize, make: fn(&mut Random, usize) -> 
     Kind { name, often, make }
 }
 
-const ROTATION: [Kind; 34] = [
+const ROTATION: [Kind; 35] = [
     kind("slots, random tables", 3, slots_random),
     kind("slots, cycles and chains", 1, slots_cycles),
     kind("slots, branching tables", 2, slots_branching),
@@ -86,9 +87,9 @@ const ROTATION: [Kind; 34] = [
     kind("calls, branching tables", 3, calls_branching),
     kind("calls, odd tables", 1, calls_odd),
     kind("calls, kinds in any order", 1, calls_any_order),
-    kind("calls, file with faults", 11, calls_faulty_file),
+    kind("calls, file with faults", 13, calls_faulty_file),
     kind("calls, two faults in order", 1, calls_two_faults),
-    kind("calls, question with faults", 6, calls_faulty_question),
+    kind("calls, question with faults", 7, calls_faulty_question),
     kind("calls, damaged file or random bytes", 1, calls_damaged),
     kind("calls, file at a limit", 1, calls_limit),
     kind("calls, Join of random tables", 2, calls_join),
@@ -97,6 +98,7 @@ const ROTATION: [Kind; 34] = [
     kind("calls, standing resources", 4, calls_standing),
     kind("calls, Pick", 6, calls_pick),
     kind("calls, Reach", 4, calls_reach),
+    kind("calls, Merge", 6, calls_merge),
     kind("calls, Report", 3, calls_report),
     kind("calls, Graph", 3, calls_graph),
     kind("calls, no whole question", 1, calls_nothing),
@@ -354,7 +356,7 @@ fn calls_join(random: &mut Random, _: usize) -> Made {
 }
 
 fn calls_join_limit(random: &mut Random, turn: usize) -> Made {
-    let (file, question) = join_at_limit(random, turn);
+    let (file, question) = join_at_limit(random, turn, Operation::Join);
     for_calls(question.before(&file))
 }
 
@@ -387,6 +389,11 @@ fn calls_reach(random: &mut Random, turn: usize) -> Made {
     for_calls(question.before(&file))
 }
 
+fn calls_merge(random: &mut Random, turn: usize) -> Made {
+    let (file, question) = merge_question(random, turn);
+    for_calls(question.before(&file))
+}
+
 /// How many sorts of file Report gets.
 const REPORT_FILES: usize = 5;
 
@@ -414,7 +421,7 @@ fn calls_graph(random: &mut Random, turn: usize) -> Made {
     for_calls(likely_question(random, &file, Operation::Graph).before(&file))
 }
 
-/// Questions shorter than a head, and operations above 12; also whole ones that
+/// Questions shorter than a head, and operations above 13; also whole ones that
 /// come in pieces.
 fn calls_nothing(random: &mut Random, turn: usize) -> Made {
     let file = sound_file(random);
@@ -432,5 +439,5 @@ fn calls_nothing(random: &mut Random, turn: usize) -> Made {
 }
 
 fn unknown_operation(random: &mut Random) -> u64 {
-    random.pick(&[13, 14, 255, 256, 1 << 32, u64::MAX])
+    random.pick(&[14, 15, 255, 256, 1 << 32, u64::MAX])
 }

@@ -96,7 +96,11 @@ impl Due {
                 push_line(&mut text, &entries_due(&self.first, question.first_length)?);
                 push_line(&mut text, &entries_due(&self.second, question.second_length)?);
             }
-            Operation::Join | Operation::Report | Operation::Graph | Operation::Pick => {
+            Operation::Join
+            | Operation::Merge
+            | Operation::Report
+            | Operation::Graph
+            | Operation::Pick => {
                 push_line(&mut text, &self.bytes_due(question.first_length)?);
             }
         }

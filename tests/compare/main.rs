@@ -29,6 +29,8 @@ mod faults;
 mod file;
 mod graph;
 mod lent;
+mod merge;
+mod merge_cases;
 mod panel;
 mod pick;
 mod programs;

@@ -18,10 +18,11 @@ pub enum Operation {
     Explain,
     Pick,
     Reach,
+    Merge,
 }
 
 /// All operations, each at its number.
-pub const OPERATIONS: [Operation; 13] = [
+pub const OPERATIONS: [Operation; 14] = [
     Operation::Open,
     Operation::Body,
     Operation::Moves,
@@ -35,10 +36,11 @@ pub const OPERATIONS: [Operation; 13] = [
     Operation::Explain,
     Operation::Pick,
     Operation::Reach,
+    Operation::Merge,
 ];
 
 /// Those that random cases ask for.
-pub const RANDOM_OPERATIONS: [Operation; 11] = [
+pub const RANDOM_OPERATIONS: [Operation; 12] = [
     Operation::Open,
     Operation::Body,
     Operation::Moves,
@@ -50,6 +52,7 @@ pub const RANDOM_OPERATIONS: [Operation; 11] = [
     Operation::Explain,
     Operation::Pick,
     Operation::Reach,
+    Operation::Merge,
 ];
 
 /// Those that take two tables, a pair of states and a set of standing resources.

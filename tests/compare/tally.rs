@@ -3,15 +3,16 @@
 use crate::answers::{answer, Answer, Decision, Explanation};
 use crate::cases::Program;
 use crate::file::open;
+use crate::merge_cases::{sorts_of_merge, MERGES};
 use crate::panel::{sorts_of_pick, PICKS};
 use crate::question::{Operation, Question, HEAD_LENGTH, STANDING_OPERATIONS};
 use crate::reach_cases::{sorts_of_reach, REACHES};
 use crate::rules::{Mode, NO_ROW};
 use crate::standing::{has_to_come, sorts_of, STANDINGS};
 
-const COLUMNS: [&str; 15] = [
+const COLUMNS: [&str; 16] = [
     "slots", "aut", "Open", "Body", "Moves", "Decide", "Run", "Join", "Report", "Readers",
-    "Constants", "Graph", "Explain", "Pick", "Reach",
+    "Constants", "Graph", "Explain", "Pick", "Reach", "Merge",
 ];
 const NUMBERS: usize = 18;
 const VERDICTS: [&str; 3] = ["full yes", "full no with partial yes", "partial no"];
@@ -51,6 +52,7 @@ pub struct Tally {
     joins: [usize; JOINS.len()],
     picks: [usize; PICKS.len()],
     reaches: [usize; REACHES.len()],
+    merges: [usize; MERGES.len()],
     /// For each sort the operations, as they stand in `STANDING_OPERATIONS`.
     standings: [[usize; STANDING_OPERATIONS.len()]; STANDINGS.len()],
 }
@@ -71,6 +73,7 @@ impl Tally {
             joins: [0; JOINS.len()],
             picks: [0; PICKS.len()],
             reaches: [0; REACHES.len()],
+            merges: [0; MERGES.len()],
             standings: [[0; STANDING_OPERATIONS.len()]; STANDINGS.len()],
         }
     }
@@ -132,11 +135,18 @@ impl Tally {
         self.explanations[6] += above.any(|mark| Some(mark) != first) as usize;
     }
 
-    /// Counts what the set of a question led to, where its call reads one.
+    /// Counts what the set of a question led to, where its call reads one, and the sorts
+    /// of a merge.
     fn count_sets(&mut self, question: &Question, file: &[u8], answer: &Answer) {
         let operation = question.operation;
         if operation == Operation::Join {
             self.count_join(question, file, answer);
+        }
+        if operation == Operation::Merge && answer.number == Some(0) {
+            let sorts = sorts_of_merge(question, file);
+            for (count, found) in self.merges.iter_mut().zip(sorts) {
+                *count += found as usize;
+            }
         }
         if let Some(listed) = &answer.picked {
             let sorts = sorts_of_pick(question, file, listed);
@@ -196,6 +206,9 @@ impl Tally {
         for kind in 0..REACHES.len() {
             self.reaches[kind] += other.reaches[kind];
         }
+        for kind in 0..MERGES.len() {
+            self.merges[kind] += other.merges[kind];
+        }
         for (counts, others) in self.standings.iter_mut().zip(other.standings) {
             for (count, other) in counts.iter_mut().zip(others) {
                 *count += other;
@@ -235,6 +248,7 @@ impl Tally {
         println!("joined: {}", listed(&JOINS, &self.joins));
         println!("picked: {}", listed(&PICKS, &self.picks));
         println!("reached: {}", listed(&REACHES, &self.reaches));
+        println!("merged: {}", listed(&MERGES, &self.merges));
         for (sort, name) in STANDINGS.iter().enumerate() {
             let (operations, counts): (Vec<_>, Vec<_>) = self.standing(sort).into_iter().unzip();
             println!("{name}: {}", listed(&operations, &counts));
@@ -251,8 +265,8 @@ impl Tally {
     }
 
     /// What no case hit, as sentences: numbers of the calls, verdicts of `slots`,
-    /// explanations, joins, picks, answers of Reach, standing sets, a long run, a long
-    /// text.
+    /// explanations, joins, picks, answers of Reach, merges, standing sets, a long run, a
+    /// long text.
     pub fn missing(&self) -> Vec<String> {
         let mut sentences = Vec::new();
         for number in 0..NUMBERS {
@@ -262,20 +276,18 @@ impl Tally {
                 }
             }
         }
-        for name in never(&VERDICTS, &self.verdicts_of_slots) {
-            sentences.push(format!("no case of slots was {name}"));
-        }
-        for name in never(&EXPLANATIONS, &self.explanations) {
-            sentences.push(format!("no pair {name} was explained"));
-        }
-        for name in never(&JOINS, &self.joins) {
-            sentences.push(format!("no join was {name}"));
-        }
-        for name in never(&PICKS, &self.picks) {
-            sentences.push(format!("no Pick was carried out {name}"));
-        }
-        for name in never(&REACHES, &self.reaches) {
-            sentences.push(format!("no Reach said {name}"));
+        let sorts: [(&str, &[&str], &[usize]); 6] = [
+            ("no case of slots was", &VERDICTS, &self.verdicts_of_slots),
+            ("no pair was explained that is", &EXPLANATIONS, &self.explanations),
+            ("no join was", &JOINS, &self.joins),
+            ("no Pick was carried out", &PICKS, &self.picks),
+            ("no Reach said", &REACHES, &self.reaches),
+            ("no Merge was carried out with", &MERGES, &self.merges),
+        ];
+        for (beginning, names, counts) in sorts {
+            for name in never(names, counts) {
+                sentences.push(format!("{beginning} {name}"));
+            }
         }
         for (sort, name) in STANDINGS.iter().enumerate() {
             for (operation, _) in self.standing(sort).iter().filter(|(_, count)| *count == 0) {
@@ -322,7 +334,7 @@ fn can_answer(column: usize, number: usize) -> bool {
         "Body" => number <= 11,
         "Moves" | "Graph" => number <= 14,
         "Pick" => number <= 12 || [14, 15].contains(&number),
-        "Join" => number <= 12 || [14, 16, 17].contains(&number),
+        "Join" | "Merge" => number <= 12 || [14, 16, 17].contains(&number),
         "Report" => number == 0 || number == 14,
         "Readers" | "Constants" => number == 0,
         "Reach" => number <= 13,

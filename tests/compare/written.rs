@@ -8,6 +8,7 @@ use crate::drafts::{file_of, Draft, DEMAND, SUPPLY};
 use crate::due::{due_of, Due};
 use crate::file::open;
 use crate::graph::printed;
+use crate::merge::merge;
 use crate::rules::join;
 use crate::words::Words;
 use std::collections::HashMap;
@@ -133,7 +134,7 @@ impl CaseFile {
             "file" => self.name_file(words),
             "ask" => self.ask(number, line.strip_prefix("ask").unwrap_or("")),
             "due" => self.start_due(words),
-            "joined" if self.open.is_some() => self.add_joined(words),
+            "joined" | "merged" if self.open.is_some() => self.add_joined(words),
             "graph" if self.open.is_some() => self.add_graph(words),
             _ if self.open.is_some() => self.due()?.add(&mut words),
             _ => self.add_content(words),
@@ -159,7 +160,7 @@ impl CaseFile {
 
     /// A line of a file: bytes, a table, tables, or rows of the last table.
     fn add_content(&mut self, mut words: Words) -> Result<(), String> {
-        if words.take_if("joined") {
+        if ["joined", "merged"].contains(&words.peek()) {
             let joined = self.joined(&mut words)?;
             words.end()?;
             return self.add_table(1, joined);
@@ -215,25 +216,28 @@ impl CaseFile {
         Ok(())
     }
 
-    /// `FILE TABLE TABLE [common SET]`: the table that Join makes of two tables of a
-    /// file.
+    /// `joined FILE TABLE TABLE [common SET]`: the table that Join makes of two tables of
+    /// a file; `merged FILE TABLE TABLE`: the one that Merge makes.
     fn joined(&self, words: &mut Words) -> Result<Draft, String> {
+        let is_joined = words.take()? == "joined";
         let name = words.take()?;
         let (first, second) = (words.number()?, words.number()?);
-        let common = words.set_behind("common")? as u16;
+        let common = if is_joined { words.set_behind("common")? as u16 } else { 0 };
         let file = self.files.get(&name).ok_or(format!("no file {name}"))?;
         let tables = open(file).map_err(|_| format!("{name} does not open"))?;
         let (Some(first), Some(second)) = (tables.get(first), tables.get(second)) else {
             return Err(format!("{name} has not so many tables"));
         };
         let states = first.states * second.states;
-        Ok(Draft { kind: DEMAND, states, rows: join(first, second, common) })
+        Ok(match is_joined {
+            true => Draft { kind: DEMAND, states, rows: join(first, second, common) },
+            false => Draft { kind: SUPPLY, states, rows: merge(first, second) },
+        })
     }
 
-    /// `joined FILE TABLE TABLE [common SET] digest NUMBER` in an answer: the rows
-    /// that Join makes of two tables, which must have this digest.
+    /// `joined FILE TABLE TABLE [common SET] digest NUMBER` in an answer, or `merged`: the
+    /// rows that Join or Merge makes of two tables, which must have this digest.
     fn add_joined(&mut self, mut words: Words) -> Result<(), String> {
-        words.take_this("joined")?;
         let rows = self.joined(&mut words)?.rows;
         words.take_this("digest")?;
         let digest = words.number()?;

@@ -1,5 +1,5 @@
-// The answers of the calls that are lent bytes, which are Join, Graph, `report::write` and Pick, and of those that are lent nothing, which are Open, Body,
-// Reach, the readers and the constants, in the lines that the head of `calls_test` tells. What reaches the output no contract states, and the case files
+// The answers of the calls that are lent bytes, which are Join, Merge, Graph, `report::write` and Pick, and of those that are lent nothing, which are Open,
+// Body, Reach, the readers and the constants, in the lines that the head of `calls_test` tells. What reaches the output no contract states, and the case files
 // hold it. Relies on `tables`, `checker`, `picker` and `report` for the calls, on `rules` for the constants, on `input` for what a call takes, on
 // `answer_parts` for the parts of an answer and on `output` for lines.
 #![tactic(auto)]
@@ -24,6 +24,15 @@ pub fn join(call: Call) {
     let common = call.question.standing;
     answer_parts::bytes(call.length, |out| {
         let found = checker::join(call.file, first, second, common, out);
+        answer_parts::tell(found.map(|size| (size.states, size.rows, 0)));
+    });
+}
+
+pub fn merge(call: Call) {
+    let first = call.question.demand.table;
+    let second = call.question.supply.table;
+    answer_parts::bytes(call.length, |out| {
+        let found = checker::merge(call.file, first, second, out);
         answer_parts::tell(found.map(|size| (size.states, size.rows, 0)));
     });
 }

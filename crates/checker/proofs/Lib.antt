@@ -5,4 +5,6 @@ pub mod DemandLaws
 pub mod RunLaws
 pub mod ExplainLaws
 pub mod ReachLaws
+pub mod ProductLaws
 pub mod JoinLaws
+pub mod MergeLaws

@@ -1,4 +1,4 @@
--- How what Decide, Reach and Join return is read as an answer in document 01's terms.
+-- How what Decide, Reach, Join and Merge return is read as an answer in document 01's terms.
 use Rattle.std.specs.Prelude.{[], ◌∷◌, Result, Ok, Err}
 use Rattle.rules.specs.Below.{one}
 use Rattle.tables.specs.declared.Refusal.{Refusal}
@@ -17,7 +17,7 @@ abbrev pub reached : Result Reached Refusal → Answer
 reached (Ok r) = carried_out (one r.yes ∷ r.count ∷ [])
 reached (Err r) = turned_back r
 
--- Join: "n and m are returned"
-abbrev pub joined : Result TableSize Refusal → Answer
-joined (Ok t) = carried_out (t.states ∷ t.rows ∷ [])
-joined (Err r) = turned_back r
+-- Join and Merge: "n and m are returned"
+abbrev pub sized : Result TableSize Refusal → Answer
+sized (Ok t) = carried_out (t.states ∷ t.rows ∷ [])
+sized (Err r) = turned_back r

@@ -6,4 +6,6 @@ pub mod Run
 pub mod Explain
 pub mod Reach
 pub mod Demands
+pub mod Products
 pub mod Join
+pub mod Merge

@@ -1,14 +1,15 @@
 // The calls about a pair of states and about two tables, as documents 01 and 02 list them. Each opens the file, turns back what must be turned back, loads
-// the two tables, and has an engine work out the answer. Nothing is asked of the caller. A file and a question stay two parameters, as the calls list them;
-// a question has a standing set too, which the supply grants in every slot. Relies on `rules` for the meaning, on `tables` for the file, on `questions` for
-// what turns back a call before its engine runs and for loading the tables of a pair, on `machines` for loading those of a join, and on the engines: `moves`
-// for the surviving moves of a pair, `graphs` for those of all pairs as text, `marks` for the marks of all pairs, `runs` for the run that shows a no,
-// `explanations` for the triples that tell why a pair is kept or struck, `reachability` for the pairs that a start can reach, `joins` for the rows of a join.
+// the two tables, and has an engine work out the answer. Nothing is asked of the caller. A file and a question stay two parameters, as the calls list them; a
+// question has a standing set too, which the supply grants in every slot. Relies on `rules` for the meaning, on `tables` for the file, on `questions` for
+// what turns back a call before its engine runs and for loading the tables of a pair, on `machines` for loading those of a join or a merge, and on the
+// engines: `moves` for the surviving moves of a pair, `graphs` for those of all pairs as text, `marks` for the marks of all pairs, `runs` for the run that
+// shows a no, `explanations` for the triples that tell why a pair is kept or struck, `reachability` for the pairs that a start can reach, `joins` and
+// `merges` for the rows of a join and of a merge.
 #![tactic(auto)]
 
 ghost use Rattle.std.specs.Prelude.{◌≡◌, length};
 ghost use Rattle.tables.specs.Answers.{counted};
-ghost use Rattle.checker.specs.Calls.{decided, reached, joined};
+ghost use Rattle.checker.specs.Calls.{decided, reached, sized};
 ghost use Rattle.checker.specs.Moves.{moves_answer, moves_slice};
 ghost use Rattle.checker.specs.Graph.{graph_answer, graph_slice, GraphDemands};
 ghost use Rattle.checker.specs.Decide.{decide_answer, decide_slice};
@@ -17,12 +18,13 @@ ghost use Rattle.checker.specs.Explain.{explain_answer, explain_marks, explain_t
 ghost use Rattle.checker.specs.Reach.{reach_answer, ReachDemands};
 ghost use Rattle.checker.specs.Demands.{MovesDemands, DecideDemands, RunDemands, ExplainDemands};
 ghost use Rattle.checker.specs.Join.{join_answer, join_slice, JoinDemands};
+ghost use Rattle.checker.specs.Merge.{merge_answer, merge_slice, MergeDemands};
 
 use machines::Machine;
-use questions::{check_decision, check_join, check_pair, load_pair, mode_of};
+use questions::{check_decision, check_operands, check_pair, load_pair, mode_of};
 pub use questions::{Question, Side};
 use rules::Limits;
-use tables::{Reason, Refusal};
+use tables::{Kind, Reason, Refusal};
 
 // What Decide finds: yes or no for the start pair, the count kept, and rounds.
 #[derive(Clone, Copy)]
@@ -190,14 +192,29 @@ pub fn join(
     common: u16,
     out: &mut [u8],
 ) -> Result<TableSize, Refusal>
-    ensures answer { joined result ≡ join_answer file.now first second common (length out.old) }
+    ensures answer { sized result ≡ join_answer file.now first second common (length out.old) }
     ensures slice { out.new ≡ join_slice file.now first second common out.old }
-    ensures demands { JoinDemands file.now first second common (joined result) out.new }
+    ensures demands { JoinDemands file.now first second common (sized result) out.new }
 {
-    check_join(file, first, second)?;
+    check_operands(file, Kind::Demand, first, second)?;
     let first_machine = Machine::load(file, first, 0);
     let second_machine = Machine::load(file, second, 0);
     let states = first_machine.pairs_with(&second_machine);
     let rows = joins::write(&first_machine, &second_machine, common, out)?;
+    Ok(TableSize { states, rows })
+}
+
+// Merge: two supply tables, perhaps the same one, as one table whose states are the pairs of their states. Two rows that share a resource give none, and a row
+// of a pair without FIN leads to a live pair. The body is written.
+pub fn merge(file: &[u8], first: usize, second: usize, out: &mut [u8]) -> Result<TableSize, Refusal>
+    ensures answer { sized result ≡ merge_answer file.now first second (length out.old) }
+    ensures slice { out.new ≡ merge_slice file.now first second out.old }
+    ensures demands { MergeDemands file.now first second (sized result) out.new }
+{
+    check_operands(file, Kind::Supply, first, second)?;
+    let first_machine = Machine::load(file, first, 0);
+    let second_machine = Machine::load(file, second, 0);
+    let states = first_machine.pairs_with(&second_machine);
+    let rows = merges::write(&first_machine, &second_machine, out)?;
     Ok(TableSize { states, rows })
 }

@@ -14,7 +14,7 @@ use questions::{Question, Side};
 const HEAD: usize = 72;
 
 // A call that is asked for, with what it takes: the mode's number, which may be any, a question, the lengths of the lent slices, and the file. A join takes
-// the question's two tables, and its set as the common one; the picker the demand's table and the set.
+// the question's two tables, and its set as the common one; a merge the tables alone; the picker the demand's table and the set.
 #[derive(Clone, Copy)]
 pub struct Call<'a> {
     pub operation: Operation,

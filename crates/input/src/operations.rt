@@ -17,6 +17,7 @@ pub enum Operation {
     Explain,
     Pick,
     Reach,
+    Merge,
 }
 
 // A number that is no operation's.
@@ -44,6 +45,7 @@ impl TryFrom<usize> for Operation {
             10 => Ok(Operation::Explain),
             11 => Ok(Operation::Pick),
             12 => Ok(Operation::Reach),
+            13 => Ok(Operation::Merge),
             _ => Err(UnknownOperation {}),
         }
     }

@@ -2,6 +2,7 @@
 use Rattle.std.specs.Prelude.{ℕ, not, List, eqb}
 use Rattle.tables.specs.Checks.{Checked, fault, ◌then◌}
 use Rattle.tables.specs.Kinds.{code_of}
+use Rattle.tables.specs.declared.kinds.Kind.{Kind}
 use Rattle.tables.specs.declared.kinds.Kind.TheVariants.{Demand, Supply}
 use Rattle.tables.specs.File.{tables_of, entry_of}
 use Rattle.tables.specs.Open.{file_fault}
@@ -9,12 +10,15 @@ use Rattle.tables.specs.Body.{number_fault}
 use Rattle.tables.specs.declared.Reason.TheVariants.{WrongKind}
 use Rattle.questions.specs.declared.named.Named.{Named}
 
--- a table by its number, as a demand or as a supply
+-- a table by its number, as one of a kind
+abbrev pub as_kind : Kind → ℕ → Named
+as_kind kind i = record { table = i; kind = kind }
+
 abbrev pub as_demand : ℕ → Named
-as_demand i = record { table = i; kind = Demand }
+as_demand = as_kind Demand
 
 abbrev pub as_supply : ℕ → Named
-as_supply i = record { table = i; kind = Supply }
+as_supply = as_kind Supply
 
 -- "12 wrong kind"
 unfoldable pub kind_fault : List ℕ → Named → Checked

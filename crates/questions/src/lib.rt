@@ -1,7 +1,7 @@
 // Questions about tables of a file: what turns back a call that names a demand or a supply table, or two such tables, and a question about a pair of their
-// states, about a pair in a mode, and a join; the two machines that a question about a pair is about; the question about two tables from their starts, and
-// the one that the programs ask about a file. Only `load_pair` asks something of its caller: that nothing turns the question back. Relies on `rules` for the
-// meaning, on `tables` for the file, and on `machines` for loading.
+// states, about a pair in a mode, and a join or a merge; the two machines that a question about a pair is about; the question about two tables from their
+// starts, and the one that the programs ask about a file. Only `load_pair` asks something of its caller: that nothing turns the question back. Relies on
+// `rules` for the meaning, on `tables` for the file, and on `machines` for loading.
 #![tactic(auto)]
 
 ghost use Rattle.std.specs.Prelude.{◌≡◌, Ok};
@@ -20,7 +20,7 @@ mod starts;
 pub use modes::{check_decision, check_mode, mode_of, number_of};
 pub use named::{Named, check_named, check_table};
 pub use programs::ask;
-pub use sizes::check_join;
+pub use sizes::check_operands;
 
 // One side of a question: the number of a table, and a state of it.
 #[derive(Clone, Copy)]

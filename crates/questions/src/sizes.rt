@@ -1,4 +1,4 @@
-// Two demand tables that are to be joined: what turns the join back before its rows are built, last of all by how many states it would have.
+// Two tables of one kind that are to be made one: what turns a join or a merge back before its rows are built, last of all by how many states it would have.
 ghost use Rattle.std.specs.Prelude.{◌≡◌};
 ghost use Rattle.questions.specs.Sizes.{size_checks};
 
@@ -6,11 +6,10 @@ use crate::named::{Named, check_named};
 use rules::Limits;
 use tables::{Kind, Reason, Refusal, states_of};
 
-// What turns back a join before its rows are built.
-pub fn check_join(file: &[u8], first: usize, second: usize) -> Result<(), Refusal>
-    ensures { result ≡ size_checks file.now first second }
+// What turns back a join of two demands, or a merge of two supplies, before its rows are built.
+pub fn check_operands(file: &[u8], kind: Kind, first: usize, second: usize) -> Result<(), Refusal>
+    ensures { result ≡ size_checks kind file.now first second }
 {
-    let kind = Kind::Demand;
     let first_named = Named { table: first, kind };
     let second_named = Named {
         table: second,

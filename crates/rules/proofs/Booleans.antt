@@ -61,6 +61,10 @@ pub or_cases : (a b : Bool) → T (a || b) → T a ⊎ T b
 or_cases true b t = inl tt
 or_cases false b t = inr t
 
+pub or_map : (a p q : Bool) → (T p → T q) → T (a || p) → T (a || q)
+or_map true p q f t = tt
+or_map false p q f t = f t
+
 -- not a, or b: a implies b
 pub imp_i : (a b : Bool) → (T a → T b) → T (not a || b)
 imp_i true b f = f tt

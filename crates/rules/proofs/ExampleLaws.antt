@@ -8,18 +8,20 @@ use lib.Dec.{T, T_not, eqb, eqb→eq, ltb, ltb→lt}
 use lib.ListN.{length}
 use Rattle.rules.specs.declared.Row.{Row}
 use Rattle.rules.specs.Lists.{all, is_empty}
-use Rattle.rules.specs.Sets.{intersection, union, shares_outside, difference, inside, larger, maximal}
+use Rattle.rules.specs.Sets.{intersection, union, disjoint, shares_outside, difference, inside, larger, maximal}
 use Rattle.rules.specs.Rows.{rises}
 use Rattle.rules.specs.Machines.{Table, row_moves, state_moves, machine}
 use Rattle.rules.specs.Moves.{left_of, consumed_of, unmet_of, candidates, prunes, survivors_of, survivors, numbers}
-use Rattle.rules.specs.Below.{list_below, one}
+use Rattle.rules.specs.Below.{list_below, lists_below, one}
 use Rattle.rules.specs.Rounds.{has_response, slot_holds, pair_holds, is_pair, keeps, losing, mark_by, mark, marks, count_pairs, running_count}
 use Rattle.rules.specs.Reach.{reaches_by, reaches, reached_count, is_blocked, is_free, count_on_yes}
 use Rattle.rules.specs.Steps.{follows, struck_by, lacks_response, step_to, last_slot, slots, steps}
 use Rattle.rules.specs.Explanations.{responses_to, last_triple, triples, triple_entries}
-use Rattle.rules.specs.Join.{insert_row, insert_rows, join_rows, join}
-use Rattle.rules.specs.Examples.{demand_e, supply_e, fin_only, demand_fifth, demand_sixth, then_fin, once, at_most_once, repeated, two_slots, ends_or_repeats, one_or_two, stuck_supply, nothing_or_one, six_or_seven, repeats_or_ends, uneven_demand, uneven_supply, other_last, first_or_last, two_in_turn, three_in_turn, goes_on_with_zero, zero_each_third, ends_stuck, turns_or_ends_stuck, supply_with, examples}
-use Rattle.rules.specs.Examples.{Example, Means, MeansWith, with_standing, moves_are, marks_are, counts_are, says_yes, says_no, run_is, triples_are, reach_is, join_is, join_count, is_stuck}
+use Rattle.rules.specs.Products.{insert_row, insert_rows, product_rows, product}
+use Rattle.rules.specs.Join.{join}
+use Rattle.rules.specs.Merge.{live_by, live, merge}
+use Rattle.rules.specs.Examples.{demand_e, supply_e, fin_only, demand_fifth, demand_sixth, then_fin, once, at_most_once, repeated, two_slots, ends_or_repeats, one_or_two, stuck_supply, nothing_or_one, six_or_seven, repeats_or_ends, uneven_demand, uneven_supply, other_last, first_or_last, two_in_turn, three_in_turn, goes_on_with_zero, zero_each_third, ends_stuck, turns_or_ends_stuck, for_ever, crossed_first, crossed_second, zero_thrice, zero_last, in_turn, each_second, each_fifth, none_or_high, low_or_high, supply_with, examples}
+use Rattle.rules.specs.Examples.{Example, Means, MeansWith, with_standing, moves_are, marks_are, counts_are, says_yes, says_no, run_is, triples_are, reach_is, join_is, join_count, merge_is, live_are, is_stuck}
 use Rattle.rules.proofs.Booleans.{eq-T, and_l, and_r}
 use Rattle.rules.proofs.ListLaws.{all-each}
 
@@ -79,6 +81,8 @@ test standing (reach_is D S t s l) =
     same_numbers (one (is_free (machine D) (supply_with standing S) t s) ∷ count_on_yes (machine D) (supply_with standing S) t s ∷ []) l
 test standing (join_is common A B J) = same_table (join common (machine A) (machine B)) J
 test standing (join_count common A B m) = eqb (length (join common (machine A) (machine B)).rows) m
+test standing (merge_is A B J) = same_table (merge (machine A) (machine B)) J
+test standing (live_are A B l) = same_numbers (lists_below A.n (λ a. list_below B.n (λ b. one (live (machine A) (machine B) a b)))) l
 test standing (is_stuck A q) = ltb q A.n && is_empty (state_moves A.rows q)
 test standing (with_standing more e) = test (union standing more) e
 
@@ -107,13 +111,15 @@ tested standing (reach_is D S t s l) h =
     equal_list eqb eqb→eq (one (is_free (machine D) (supply_with standing S) t s) ∷ count_on_yes (machine D) (supply_with standing S) t s ∷ []) l h
 tested standing (join_is common A B J) h = equal_table (join common (machine A) (machine B)) J h
 tested standing (join_count common A B m) h = eqb→eq (length (join common (machine A) (machine B)).rows) m h
+tested standing (merge_is A B J) h = equal_table (merge (machine A) (machine B)) J h
+tested standing (live_are A B l) h = equal_list eqb eqb→eq (lists_below A.n (λ a. list_below B.n (λ b. one (live (machine A) (machine B) a b)))) l h
 tested standing (is_stuck A q) h =
     let empty : Bool = is_empty (state_moves A.rows q) in
     (ltb→lt q A.n (and_l (ltb q A.n) empty h), empty_list (state_moves A.rows q) (and_r (ltb q A.n) empty h))
 tested standing (with_standing more e) h = tested (union standing more) e h
 
 passed : T (all (test 0) examples)
-unfolding examples test same_numbers same_list same_table same_row flat_map demand_e supply_e fin_only demand_fifth demand_sixth then_fin once at_most_once repeated two_slots ends_or_repeats one_or_two stuck_supply nothing_or_one six_or_seven repeats_or_ends uneven_demand uneven_supply other_last first_or_last two_in_turn three_in_turn goes_on_with_zero zero_each_third ends_stuck turns_or_ends_stuck intersection union difference inside larger maximal rises row_moves state_moves left_of consumed_of unmet_of candidates prunes survivors_of numbers has_response slot_holds pair_holds is_pair keeps losing mark_by mark marks count_pairs running_count follows struck_by lacks_response step_to last_slot slots steps responses_to last_triple triples triple_entries reaches_by reaches reached_count is_blocked is_free count_on_yes shares_outside insert_row insert_rows join_rows join
+unfolding examples test same_numbers same_list same_table same_row flat_map demand_e supply_e fin_only demand_fifth demand_sixth then_fin once at_most_once repeated two_slots ends_or_repeats one_or_two stuck_supply nothing_or_one six_or_seven repeats_or_ends uneven_demand uneven_supply other_last first_or_last two_in_turn three_in_turn goes_on_with_zero zero_each_third ends_stuck turns_or_ends_stuck for_ever crossed_first crossed_second zero_thrice zero_last in_turn each_second each_fifth none_or_high low_or_high intersection union difference disjoint inside larger maximal rises row_moves state_moves left_of consumed_of unmet_of candidates prunes survivors_of numbers has_response slot_holds pair_holds is_pair keeps losing mark_by mark marks count_pairs running_count follows struck_by lacks_response step_to last_slot slots steps responses_to last_triple triples triple_entries reaches_by reaches reached_count is_blocked is_free count_on_yes shares_outside insert_row insert_rows product_rows product join live_by live merge
 passed = tt
 
 -- every example of the table holds

@@ -19,4 +19,6 @@ pub mod RunLaws
 pub mod ReachLaws
 pub mod StepLaws
 pub mod ExplanationLaws
+pub mod ProductLaws
 pub mod JoinLaws
+pub mod MergeLaws

@@ -5,6 +5,7 @@ use mathlib.Core.Path.{◌≡◌, refl, sym, ap, ap₂, ◌∙◌, subst}
 use mathlib.Core.Bool.{Bool, true, false, not, ◌&&◌, ◌||◌, true≢false}
 use mathlib.Core.Logic.{◌⊎◌, inl, inr, ◌↔◌}
 use native.Mathlib.Omega.{arith}
+use Rattle.std.proofs.Math.Bool.{not-not}
 use native.Mathlib.Nat.{div-one, div-div-eq-div-mul, pow-suc, mul_comm, div-eq_of_lt, lt_of_lt_of_le}
 use lib.Dec.{T, T_not, not_T, eqb, eqb→eq, ltb, ltb→lt, nltb→le}
 use lib.Arith.{bin_ind, lt_of_le-ne}
@@ -271,6 +272,9 @@ outside_none a b =
     let both = intersection a b in
     ap not (T-same (inside both 0) (eqb both 0) (λ t. eq-T both 0 (let least = inside-le both 0 t in omega arith))
     (λ t. subst (λ (x : ℕ). T (inside x 0)) (sym (eqb→eq both 0 t)) (inside-refl 0)))
+
+pub shares_none : (a b : ℕ) → not (shares_outside 0 a b) ≡ disjoint a b
+shares_none a b = ap not (outside_none a b) ∙ not-not (disjoint a b)
 
 -- ---- sets of w resources: the numbers below 2 ^ w
 

@@ -12,5 +12,7 @@ pub mod Runs
 pub mod Reach
 pub mod Steps
 pub mod Explanations
+pub mod Products
 pub mod Join
+pub mod Merge
 pub mod Examples

@@ -2,38 +2,46 @@
 use mathlib.Core.Path.{sym, ◌∙◌}
 use native.Mathlib.Omega.{arith}
 use Rattle.std.proofs.Common.{Ok, Err}
+use Rattle.rules.specs.Join.{join}
+use Rattle.tables.specs.declared.kinds.Kind.TheVariants.{Demand}
 use Rattle.tables.proofs.CheckLaws.{handed_on, then_fault, turned_back_lem}
-use Rattle.checker.specs.Join.{join_checks, join_answer, join_slice}
-use Rattle.checker.proofs.JoinLaws.{first_filed, second_filed, product_few, size_told, write_answers, joined_table}
+use Rattle.checker.specs.Products.{product_checks, product_answer, product_slice}
+use Rattle.checker.specs.Join.{join_answer, join_slice}
+use Rattle.checker.proofs.ProductLaws.{first_filed, second_filed, product_few, size_told, write_answers}
+use Rattle.checker.proofs.JoinLaws.{joined_table}
 use Rattle.rules.proofs.ClauseLaws.{as_answer_slice_demands}
 use Rattle.checker.proofs.join.Goals as goal
 
-pub returns-in_err-check_join : goal.returns-in_err-check_join
-unfolding join_checks join_answer join_slice
-returns-in_err-check_join c =
+pub returns-in_err-check_operands : goal.returns-in_err-check_operands
+unfolding product_checks product_answer product_slice join_answer join_slice
+returns-in_err-check_operands c =
     rw (handed_on _ _ c.from_residual.ensures.1)
     (as_answer_slice_demands (joined_table _ _ _ _ _ _ (Err _)
-    (turned_back_lem _ _ _ _ _ (then_fault _ _ _ (sym c.check_join.ensures ∙ c.in_err-check_join.was)))))
+    (turned_back_lem _ _ _ _ _ (then_fault _ _ _ (sym c.check_operands.ensures ∙ c.in_err-check_operands.was)))))
 
 pub load-first_machine-requires : goal.load-first_machine-requires
-load-first_machine-requires c = first_filed _ _ _ (sym c.check_join.ensures ∙ c.in_ok-check_join.was)
+load-first_machine-requires c = first_filed Demand _ _ _ (sym c.check_operands.ensures ∙ c.in_ok-check_operands.was)
 
 pub load-second_machine-requires : goal.load-second_machine-requires
-load-second_machine-requires c = second_filed _ _ _ (sym c.check_join.ensures ∙ c.in_ok-check_join.was)
+load-second_machine-requires c = second_filed Demand _ _ _ (sym c.check_operands.ensures ∙ c.in_ok-check_operands.was)
 
 pub write-requires : goal.write-requires
-write-requires c = product_few _ _ _ (sym c.check_join.ensures ∙ c.in_ok-check_join.was) c.load-first_machine.ensures c.load-second_machine.ensures
+write-requires c =
+    product_few Demand _ _ _ (sym c.check_operands.ensures ∙ c.in_ok-check_operands.was) c.load-first_machine.ensures c.load-second_machine.ensures
 
 pub returns-in_err-rows : goal.returns-in_err-rows
+unfolding join_answer join_slice
 returns-in_err-rows c =
     let written =
-    write_answers _ _ _ (sym c.check_join.ensures ∙ c.in_ok-check_join.was) c.load-first_machine.ensures c.load-second_machine.ensures c.args.common
-    (omega arith) c.pairs_with-states.ensures _ _ c.write.ensures.answer c.write.ensures.slice c.in_err-rows.was in
-    rw (handed_on _ _ c.from_residual-in_err-rows.ensures.1) (as_answer_slice_demands (joined_table _ _ _ _ _ _ (Err _) (written.answer, written.slice)))
+    write_answers Demand _ _ _ (sym c.check_operands.ensures ∙ c.in_ok-check_operands.was) c.load-first_machine.ensures c.load-second_machine.ensures
+    (λ D E. (join c.args.common D E).rows) c.pairs_with-states.ensures _ _ c.write.ensures.answer c.write.ensures.slice c.in_err-rows.was in
+    rw (handed_on _ _ c.from_residual-in_err-rows.ensures.1)
+    (as_answer_slice_demands (joined_table _ _ _ _ _ _ (Err _) (written.answer, written.slice)))
 
 pub returns : goal.returns
+unfolding join_answer join_slice
 returns c =
     let written =
-    write_answers _ _ _ (sym c.check_join.ensures ∙ c.in_ok-check_join.was) c.load-first_machine.ensures c.load-second_machine.ensures c.args.common
-    (omega arith) c.pairs_with-states.ensures _ _ c.write.ensures.answer c.write.ensures.slice c.in_ok-rows.was in
+    write_answers Demand _ _ _ (sym c.check_operands.ensures ∙ c.in_ok-check_operands.was) c.load-first_machine.ensures c.load-second_machine.ensures
+    (λ D E. (join c.args.common D E).rows) c.pairs_with-states.ensures _ _ c.write.ensures.answer c.write.ensures.slice c.in_ok-rows.was in
     as_answer_slice_demands (joined_table _ _ _ _ _ _ (Ok _) (size_told (omega arith) (omega arith) ∙ written.answer, written.slice))

@@ -1,4 +1,4 @@
--- `questions::sizes::check_join` meets its contract. Each answer is the first check that finds a fault.
+-- `questions::sizes::check_operands` meets its contract. Each answer is the first check that finds a fault.
 use Prim.Native.Nat.{◌*◌}
 use mathlib.Core.Path.{refl}
 use native.Mathlib.Omega.{arith}
@@ -6,7 +6,7 @@ use borrow.Author.Tests.{lt-ltb, le-ltb}
 use Rattle.tables.specs.Checks.{fault}
 use Rattle.tables.proofs.CheckLaws.{hand_stops, then_goes}
 use Rattle.questions.specs.Sizes.{size_checks}
-use Rattle.questions.proofs.sizes.check_join.Goals as goal
+use Rattle.questions.proofs.sizes.check_operands.Goals as goal
 
 pub returns-in_err-check_named : goal.returns-in_err-check_named
 unfolding size_checks
