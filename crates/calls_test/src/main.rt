@@ -47,10 +47,11 @@ fn answer(call: Call) {
     }
 }
 
-// Reads and answers the next question; None where there is none.
+// Reads and answers the next question; None where there is none. The room stands first: behind another statement it was
+// cleared twice, as measured.
 fn answer_next() -> Option<()> {
-    let length = input::next_length()?;
     let mut room = [0u8; LONGEST];
+    let length = input::next_length()?;
     let asked = room.get_mut(..length)?;
     if io::read_full(0, asked) < length {
         return None;

@@ -6,17 +6,14 @@ use rules::{Move, Row};
 use std::fmt;
 use std::fmt::{Result, Write};
 
-// Standard output by `io`, which calls no other C function than `write`.
+// Standard output by `io`, which calls no other C function than `write`. What cannot be written is missed in the output, and what follows is written still.
 #[derive(Drop)]
 struct Out {}
 
 impl Write for Out {
     fn write_str(&mut self, s: &str) -> Result {
-        if io::write_all(1, s.as_bytes()) {
-            Ok(())
-        } else {
-            Err(fmt::Error)
-        }
+        io::write_all(1, s.as_bytes());
+        Ok(())
     }
 }
 
@@ -102,7 +99,6 @@ fn answers(out: &mut Out) -> Result {
     show_move(out, "move", Move::new(7, 65535, 63))
 }
 
-// An answer that cannot be written is missed in the output.
 fn main() {
     let _ = answers(&mut Out {});
 }

@@ -6,7 +6,9 @@ use mathlib.Core.List.{List, [], ◌∷◌, ◌++◌}
 use native.Mathlib.Omega.{arith}
 use lib.Dec.{ltb}
 use native.Mathlib.Nat.{pow-suc, pow-le-pow_right}
-use lib.ListN.{length, take, length-append}
+use lib.ListN.{length, take, set, get_or, length-append}
+use lib.Seq.{length-take-le, take-suc}
+use native.Mathlib.Numerals.{add-one}
 use borrow.Author.Tests.{ltb-true, ltb-false, lt-ltb, le-ltb}
 use Rattle.io.specs.Digits.{hex_digit_ascii, last_digits, IsDigitCount}
 use Rattle.rules.specs.Slices.{write_at}
@@ -96,3 +98,13 @@ digits_in_lem (suc k) n = go (ltb n 10) (digits_in_lem k (n / 10))
 pub length-decimal : (n : ℕ) → length (decimal n) ≤ 20
 unfolding decimal
 length-decimal n = digits_in_lem 20 n
+
+-- one byte more of a piece
+pub byte_written : (start i : ℕ) (piece old : List ℕ) → i < length piece
+    → set (write_at start (take i piece) old) (start + i) (get_or piece i 0) ≡ write_at start (take (i + 1) piece) old
+unfolding write_at
+byte_written start i piece old h =
+    let place : start + i ≡ start + length (take i piece) = omega (arith, length-take-le i piece) in
+    ap (λ (k : ℕ). set (write_at start (take i piece) old) k (get_or piece i 0)) place
+    ∙ sym (write_at-append start (take i piece) (get_or piece i 0 ∷ []) old)
+    ∙ ap (λ (l : List ℕ). write_at start l old) (sym (take-suc piece i 0 h) ∙ ap (λ (k : ℕ). take k piece) (sym (add-one i)))

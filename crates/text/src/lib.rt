@@ -25,6 +25,15 @@ impl<'a> Writer<'a> {
         Writer { out, at: 0 }
     }
 
+    // Begins at any place, past the buffer's end too.
+    pub fn begin_at(out: &'a mut [u8], at: usize) -> Self
+        ensures same_reference { result.out.ghost_name ≡ out.entry.ghost_name }
+        ensures bytes { result.out.now ≡ out.old }
+        ensures at { result.at ≡ at }
+    {
+        Writer { out, at }
+    }
+
     // The place behind the text.
     pub fn at(&self) -> usize
         ensures { result ≡ self.now.at }
@@ -39,13 +48,15 @@ impl<'a> Writer<'a> {
         &self.out[..self.at.min(self.out.len())]
     }
 
-    // Writes the bytes of a piece.
+    // Writes the bytes of a piece. Pieces are short, so that copying them by a call takes longer than byte by byte.
     pub fn put(&mut self, piece: &[u8])
         ensures { Wrote piece.now self.old self.new }
     {
         let start = self.at.min(self.out.len());
         let count = piece.len().min(self.out.len() - start);
-        self.out[start..start + count].copy_from_slice(&piece[..count]);
+        for i in 0..count {
+            self.out[start + i] = piece[i];
+        }
         self.at = self.at.saturating_add(piece.len());
     }
 

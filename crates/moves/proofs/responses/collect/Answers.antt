@@ -1,9 +1,9 @@
--- `Responses::collect` meets its contract.
+-- `responses::collect` meets its contract.
 use Rattle.std.proofs.Common.{arith, length-append, Bor}
 use Rattle.rules.specs.declared.Move.{Move}
 use Rattle.moves.proofs.CollectedLaws.{collecting_other, collecting_under, collecting_more}
-use Rattle.moves.proofs.responses.Responses.collect.Goals as goal
-use Rattle.moves.proofs.responses.Responses.collect.Goals.{else-is_inside-via-then-is_inside+else-not-is_under, else-is_inside-via-else-is_inside}
+use Rattle.moves.proofs.responses.collect.Goals as goal
+use Rattle.moves.proofs.responses.collect.Goals.{else-is_inside-via-then-is_inside+else-not-is_under, else-is_inside-via-else-is_inside}
 
 pub loop-taken-preserved : goal.loop-taken-preserved
 loop-taken-preserved g c =

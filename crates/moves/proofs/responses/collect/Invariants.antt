@@ -1,9 +1,9 @@
--- `Responses::collect` meets its contract. The invariant: the responses among the moves so far are collected.
+-- `responses::collect` meets its contract. The invariant: the responses among the moves so far are collected.
 use Rattle.std.proofs.Common.{◌≤◌, length}
 use Rattle.std.specs.Iterator.Adapters.{rev_source}
 use Rattle.std.specs.Slice.Iter.{iter_rest}
 use Rattle.moves.proofs.CollectedLaws.{Collecting}
-use Rattle.moves.proofs.responses.Responses.collect.Given as goal
+use Rattle.moves.proofs.responses.collect.Given as goal
 
 abbrev pub invariant-loop-taken : goal.invariant-loop-taken
 invariant-loop-taken g l = record {
