@@ -1,7 +1,7 @@
 -- `responses::collect` meets its contract.
 use Rattle.std.proofs.Common.{arith, length-append, Bor}
 use Rattle.rules.specs.declared.Move.{Move}
-use Rattle.moves.proofs.CollectedLaws.{collecting_other, collecting_under, collecting_more}
+use Rattle.moves.proofs.CollectedLaws.{collecting_moves_other, collecting_moves_under, collecting_moves_more}
 use Rattle.moves.proofs.responses.collect.Goals as goal
 use Rattle.moves.proofs.responses.collect.Goals.{else-is_inside-via-then-is_inside+else-not-is_under, else-is_inside-via-else-is_inside}
 
@@ -13,13 +13,13 @@ loop-taken-preserved g c =
     record {
       few = omega (arith, length-append {A = Bor Move});
       collecting = elim c.else-is_inside.branch [
-        | else-is_inside-via-then-is_inside+else-not-is_under w ↦ collecting_under b h e w.as_slice.ensures.value w.is_under.ensures w.if-not-is_under.false
-        | else-is_inside-via-else-is_inside w ↦ collecting_other b h e c.is_inside.ensures w.if-is_inside.false
+        | else-is_inside-via-then-is_inside+else-not-is_under w ↦ collecting_moves_under b h e w.as_slice.ensures.value w.is_under.ensures w.if-not-is_under.false
+        | else-is_inside-via-else-is_inside w ↦ collecting_moves_other b h e c.is_inside.ensures w.if-is_inside.false
       ];
     }
 
 pub loop-taken-preserved-then-not-is_under : goal.loop-taken-preserved-then-not-is_under
 loop-taken-preserved-then-not-is_under g c = record {
   few = omega (arith, length-append {A = Bor Move});
-  collecting = collecting_more c.in-Some.taken.now c.loop-taken.invariant.collecting c.in-Some.ensures.steps c.is_inside.ensures c.if-is_inside.true c.push.ensures.items;
+  collecting = collecting_moves_more c.in-Some.taken.now c.loop-taken.invariant.collecting c.in-Some.ensures.steps c.is_inside.ensures c.if-is_inside.true c.push.ensures.items;
 }
