@@ -1,11 +1,11 @@
--- `tests::task` meets its contract.
-use Rattle.std.proofs.Common.{◌≡◌, ◌<◌, List, [], ◌∷◌, ◌⊎◌, inl, inr, sym, subst, arith}
+-- `task` meets its contract.
+use Rattle.std.proofs.Common.{◌≡◌, ◌<◌, List, ◌∷◌, ◌⊎◌, inl, inr, sym, subst, arith}
 use mathlib.Core.List.Memᴰ
 use mathlib.Core.List.{Memᴰ}
 use Rattle.rules.specs.declared.Move.{Move}
 use Rattle.machines.specs.Targets.{Low}
 use Rattle.machines.proofs.StoredLaws.{low_none}
-use Rattle.moves.proofs.tests.task.Goals as goal
+use Rattle.responses_test.proofs.task.Goals as goal
 
 low_more : (m : Move) (ms : List Move) → m.target < 64 → Low ms → Low (m ∷ ms)
 low_more m ms l h = record { low = λ b i. go b (Memᴰ.cases_cons i) }
